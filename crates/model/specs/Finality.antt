@@ -1,0 +1,65 @@
+-- Justified, final, conflicting finals: source document 002, section 2, with bonds as weights.
+use Prim.Native.Nat.{ℕ, zero, suc, _<_}
+use mathlib.Core.Path.{_≡_}
+use mathlib.Core.List.{List, [], _∷_, _++_}
+use mathlib.Core.Bool.{Bool, true, false, cond, _&&_, _||_}
+use lib.ListN.{length, getD}
+use lib.Dec.{eqb}
+use Rattle.model.specs.Lists.{anyBelow}
+use Rattle.model.specs.Model.{Model, Checkpoint}
+use Rattle.model.specs.Support.{link?, Link}
+use Rattle.model.specs.Tree.{Child, Conflict, child?, conflict?}
+use Rattle.model.specs.declared.Status.{Status}
+use Rattle.model.specs.declared.Status.the-variants.{Plain, Justified as JustifiedOnly, Final as FinalToo}
+
+-- "Justified: the root, or the target of a supermajority link with a justified source." Over any relation for the links.
+pub data JustifiedBy (L : ℕ → ℕ → Type 0) : ℕ → Type 0 where
+  root : JustifiedBy L 0
+  link : {s t : ℕ} → JustifiedBy L s → L s t → JustifiedBy L t
+
+abbrev pub Justified : Model → ℕ → Type 0
+Justified m p = JustifiedBy (Link m) p
+
+-- "Final: justified, with a supermajority link to a direct child."
+pub record FinalBy (cs : List Checkpoint) (L : ℕ → ℕ → Type 0) (p : ℕ) : Type 0 where
+  pub justified : JustifiedBy L p
+  pub child : ℕ
+  pub direct : Child cs p child
+  pub linked : L p child
+
+abbrev pub Final : Model → ℕ → Type 0
+Final m p = FinalBy (m .checkpoints) (Link m) p
+
+-- two final checkpoints conflict
+pub record ConflictingFinals (m : Model) : Type 0 where
+  pub one : ℕ
+  pub other : ℕ
+  pub one-final : Final m one
+  pub other-final : Final m other
+  pub conflict : Conflict (m .checkpoints) one other
+
+-- the answers that compute these
+
+-- for each of the first n places, whether it is justified: a source's place is below its target's, so one pass will do
+unfoldable pub justifiedMarks : Model → ℕ → List Bool
+justifiedMarks m zero = []
+justifiedMarks m (suc n) =
+    let marks = justifiedMarks m n in
+    marks ++ (eqb n 0 || anyBelow n (λ s. getD marks s false && link? m s n)) ∷ []
+
+unfoldable pub justified? : Model → ℕ → Bool
+justified? m p = getD (justifiedMarks m (length (m .checkpoints))) p false
+
+unfoldable pub final? : Model → ℕ → Bool
+final? m p = justified? m p && anyBelow (length (m .checkpoints)) (λ c. child? (m .checkpoints) p c && link? m p c)
+
+-- document 01's standing of a place
+unfoldable pub status : Model → ℕ → Status
+status m p = cond (final? m p) FinalToo (cond (justified? m p) JustifiedOnly Plain)
+
+-- the conflict answer
+unfoldable pub conflicting? : Model → Bool
+conflicting? m =
+    anyBelow (length (m .checkpoints)) (λ a.
+    anyBelow (length (m .checkpoints)) (λ b.
+    final? m a && final? m b && conflict? (m .checkpoints) a b))

@@ -1,0 +1,57 @@
+// The types of the finality witness, its limits and its refusals. The rules themselves are in specs/.
+
+// A checkpoint's place: checkpoints are counted in the order of acceptance, the root being 0.
+pub struct Place(pub u16);
+
+// A checkpoint's height in the tree: the root's, and one more for each step away from it.
+pub struct Height(pub u32);
+
+// Document 01's standing of a checkpoint. A final checkpoint is justified too.
+pub enum Status {
+    Plain,
+    Justified,
+    Final,
+}
+
+// How much is held at most, and the largest bond.
+pub const MAX_MEMBERS: usize = 128;
+
+pub const MAX_CHECKPOINTS: usize = 512;
+
+pub const MAX_VOTES: usize = 4096;
+
+pub const MAX_BOND: u64 = 1_000_000_000_000;
+
+// Why something is refused: a case for each row of document 01's table, in its order; specs/Refusals.antt has the numbers.
+pub enum Refusal {
+    LogTooShort,
+    LogMark,
+    LogVersion,
+    UnknownKind,
+    CutRecord,
+    MembersFixed,
+    BondOutOfRange,
+    IdHeld,
+    MembersFull,
+    NameHeld,
+    ParentNotHeld,
+    CheckpointsFull,
+    VoterNotHeld,
+    SourceNotHeld,
+    TargetNotHeld,
+    WrongHeight,
+    NotAncestor,
+    VoteHeld,
+    VotesFull,
+    UnsoundState,
+    PlaceNotHeld,
+    ListLength,
+    ListMark,
+    ListVersion,
+    IdNotRising,
+    ChargedNotHeld,
+    NotOwnVote,
+    NotEarlier,
+    NoViolation,
+    BufferTooShort,
+}
