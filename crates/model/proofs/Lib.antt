@@ -1,2 +1,5 @@
 pub mod Lists
+pub mod Tree
+pub mod Support
+pub mod Finality
 pub mod Cases

@@ -1,0 +1,161 @@
+-- Status and conflict answer: exactly what the inductive rules say, in every well-formed model.
+use Prim.Native.Nat.{ℕ, zero, suc, _+_, _<_, _≤_}
+use native.Mathlib.Omega.{arith}
+use mathlib.Core.Path.{_≡_, refl, sym, ap, _∙_, subst}
+use mathlib.Core.Logic.{_⊎_, inl, inr, ⊎-elim, _↔_}
+use mathlib.Core.List.{List, [], _∷_, _++_}
+use mathlib.Core.Bool.{Bool, true, false, cond, _&&_, _||_, false≢true}
+use borrow.Author.Tests.{eqb-true, eq-eqb}
+use lib.ListN.{length, getD, length-append, List·getD-append, List·getD-eq-default}
+use lib.Seq.{getD-at}
+use lib.Dec.{eqb}
+use Rattle.model.specs.Lists.{anyBelow}
+use Rattle.model.specs.Model.{Model, Checkpoint}
+use Rattle.model.specs.Support.{link?, Link}
+use Rattle.model.specs.Tree.{Child, Ancestor, Conflict, child?, conflict?}
+use Rattle.model.specs.Finality.{JustifiedBy, root, link, FinalBy, Justified, Final, ConflictingFinals, justifiedMarks, justified?, final?, status, conflicting?}
+use Rattle.model.specs.WellFormed.{WellFormed}
+use Rattle.model.specs.declared.Status.{Status}
+use Rattle.model.specs.declared.Status.the-variants.{Plain, Justified as JustifiedOnly, Final as FinalToo}
+use Rattle.model.proofs.Lists.{Below, below-found, found-below, both, and-left, and-right, or-left, or-right, or-cases, clash, decided, not-so, lt-or-ge}
+use Rattle.model.proofs.Tree.{child-true, true-child, ancestor-later, conflict-true, true-conflict}
+use Rattle.model.proofs.Support.{link-climbs, link-held}
+
+module _ (m : Model) where
+  -- what one pass adds for place n
+  abbrev mark : ℕ → Bool
+  mark n = eqb n 0 || anyBelow n (λ s. getD (justifiedMarks m n) s false && link? m s n)
+
+  length-marks : (n : ℕ) → length (justifiedMarks m n) ≡ n
+  unfolding justifiedMarks
+  length-marks zero = refl
+  length-marks (suc n) = length-append (justifiedMarks m n) (mark n ∷ []) ∙ omega (arith, length-marks n)
+
+  marks-at : (n p : ℕ) → p < n → getD (justifiedMarks m n) p false ≡ mark p
+  unfolding justifiedMarks
+  marks-at zero p h = absurd (omega arith)
+  marks-at (suc n) p h =
+      ⊎-elim
+      (λ l. List·getD-append (justifiedMarks m n) (mark n ∷ []) false p (omega (arith, length-marks n)) ∙ marks-at n p l)
+      (λ l. last (omega arith))
+      (lt-or-ge p n)
+    where
+      last : n ≡ p → getD (justifiedMarks m n ++ mark n ∷ []) p false ≡ mark p
+      last e = subst (λ (k : ℕ). getD (justifiedMarks m n ++ mark n ∷ []) k false ≡ mark k) e (getD-at (justifiedMarks m n) (mark n) [] false n (length-marks n))
+
+  mark-justified : (n p : ℕ) → p < n → mark p ≡ true → Justified m p
+  mark-justified zero p h e = absurd (omega arith)
+  mark-justified (suc n) p h e =
+      ⊎-elim
+      (λ z. subst (λ (k : ℕ). Justified m k) (sym (eqb-true p 0 z)) root)
+      (λ f. from-source (mark-justified n) (below-found p (λ s. getD (justifiedMarks m p) s false && link? m s p) f))
+      (or-cases (eqb p 0) (anyBelow p (λ s. getD (justifiedMarks m p) s false && link? m s p)) e)
+    where
+      from-source : ((s : ℕ) → s < n → mark s ≡ true → Justified m s) → Below p (λ s. getD (justifiedMarks m p) s false && link? m s p) → Justified m p
+      from-source ih b =
+          let s = b .at in
+          link
+          (ih s (omega (arith, b .inside)) (sym (marks-at p s (b .inside)) ∙ and-left (getD (justifiedMarks m p) s false) (link? m s p) (b .passes)))
+          (and-right (getD (justifiedMarks m p) s false) (link? m s p) (b .passes))
+
+-- the status of a place: exactly by the rules; a final checkpoint counts as justified too
+pub record StatusExact (m : Model) (p : ℕ) : Type 0 where
+  pub final : (status m p ≡ FinalToo) ↔ Final m p
+  pub justified : ((status m p ≡ JustifiedOnly) ⊎ (status m p ≡ FinalToo)) ↔ Justified m p
+  pub plain : (status m p ≡ Plain) ↔ (Justified m p → ⊥)
+
+apart : _≡_ {A = ℕ} 0 1 → ⊥
+apart e = omega arith
+
+module _ (root-height : ℕ) (m : Model) (good : WellFormed root-height m) where
+  justified-mark : {p : ℕ} → Justified m p → mark m p ≡ true
+  justified-mark root = refl
+  justified-mark (link {s = s} {t = t} j l) =
+      let below = ancestor-later root-height (m .checkpoints) (good .tree) (link-climbs root-height m good s t l) in
+      or-right (eqb t 0) (anyBelow t (λ k. getD (justifiedMarks m t) k false && link? m k t))
+      (found-below t (λ k. getD (justifiedMarks m t) k false && link? m k t) s below (both (marks-at m t s below ∙ justified-mark j) l))
+
+  pub justified-held : {p : ℕ} → Justified m p → p < length (m .checkpoints)
+  justified-held root = good .tree .rooted
+  justified-held (link {s = s} {t = t} j l) = link-held root-height m good s t l
+
+  pub justified-true : (p : ℕ) → justified? m p ≡ true → Justified m p
+  unfolding justified?
+  justified-true p e = ⊎-elim
+      (λ h. mark-justified m (suc p) p (omega arith) (sym (marks-at m (length (m .checkpoints)) p h) ∙ e))
+      (λ h. clash e (List·getD-eq-default (justifiedMarks m (length (m .checkpoints))) false (omega (arith, length-marks m (length (m .checkpoints))))))
+      (lt-or-ge p (length (m .checkpoints)))
+
+  pub true-justified : (p : ℕ) → Justified m p → justified? m p ≡ true
+  unfolding justified?
+  true-justified p j = marks-at m (length (m .checkpoints)) p (justified-held j) ∙ justified-mark j
+
+  pub final-true : (p : ℕ) → final? m p ≡ true → Final m p
+  unfolding final?
+  final-true p e =
+      let c = below-found (length (m .checkpoints)) (λ k. child? (m .checkpoints) p k && link? m p k) (and-right (justified? m p) _ e) in
+      record {
+        justified = justified-true p (and-left (justified? m p) _ e);
+        child = c .at;
+        direct = child-true (m .checkpoints) p (c .at) (and-left (child? (m .checkpoints) p (c .at)) (link? m p (c .at)) (c .passes));
+        linked = and-right (child? (m .checkpoints) p (c .at)) (link? m p (c .at)) (c .passes);
+      }
+
+  pub true-final : (p : ℕ) → Final m p → final? m p ≡ true
+  unfolding final?
+  true-final p f =
+      both
+      (true-justified p (f .justified))
+      (found-below (length (m .checkpoints)) (λ k. child? (m .checkpoints) p k && link? m p k) (f .child) (f .direct .inside)
+      (both (true-child (m .checkpoints) p (f .child) (f .direct)) (f .linked)))
+
+  -- the conflict answer is yes exactly when two final checkpoints conflict
+  pub conflicting-true : conflicting? m ≡ true → ConflictingFinals m
+  unfolding conflicting?
+  conflicting-true e =
+      let n = length (m .checkpoints) in
+      let a = below-found n (λ k. anyBelow n (λ j. final? m k && final? m j && conflict? (m .checkpoints) k j)) e in
+      let b = below-found n (λ j. final? m (a .at) && final? m j && conflict? (m .checkpoints) (a .at) j) (a .passes) in
+      let finals = and-left (final? m (a .at) && final? m (b .at)) (conflict? (m .checkpoints) (a .at) (b .at)) (b .passes) in
+      record {
+        one = a .at;
+        other = b .at;
+        one-final = final-true (a .at) (and-left (final? m (a .at)) (final? m (b .at)) finals);
+        other-final = final-true (b .at) (and-right (final? m (a .at)) (final? m (b .at)) finals);
+        conflict = conflict-true root-height (m .checkpoints) (good .tree) (a .at) (b .at) (and-right (final? m (a .at) && final? m (b .at)) (conflict? (m .checkpoints) (a .at) (b .at)) (b .passes));
+      }
+
+  pub true-conflicting : ConflictingFinals m → conflicting? m ≡ true
+  unfolding conflicting?
+  true-conflicting c =
+      let n = length (m .checkpoints) in
+      found-below n (λ k. anyBelow n (λ j. final? m k && final? m j && conflict? (m .checkpoints) k j)) (c .one) (justified-held (c .one-final .justified))
+      (found-below n (λ j. final? m (c .one) && final? m j && conflict? (m .checkpoints) (c .one) j) (c .other) (justified-held (c .other-final .justified))
+      (both
+      (both (true-final (c .one) (c .one-final)) (true-final (c .other) (c .other-final)))
+      (true-conflict root-height (m .checkpoints) (good .tree) (c .one) (c .other) (c .conflict))))
+
+  pub status-exact : (p : ℕ) → StatusExact m p
+  unfolding status
+  status-exact p = go (final? m p) (justified? m p) refl refl
+    where
+      go : (f j : Bool) → final? m p ≡ f → justified? m p ≡ j → StatusExact m p
+      go true j ef ej =
+          let s : status m p ≡ FinalToo = rw ef in
+          let fin = final-true p ef in
+          record { final = (λ q. fin, λ q. s); justified = (λ q. fin .justified, λ q. inr s); plain = (λ q. absurd (apart (cc)), λ n. absurd (n (fin .justified))) }
+      go false true ef ej =
+          let s : status m p ≡ JustifiedOnly = rw (ef, ej) in
+          let just = justified-true p ej in
+          record {
+            final = (λ q. absurd (apart (cc)), λ fin. clash (true-final p fin) ef);
+            justified = (λ q. just, λ q. inl s);
+            plain = (λ q. absurd (apart (cc)), λ n. absurd (n just));
+          }
+      go false false ef ej =
+          let s : status m p ≡ Plain = rw (ef, ej) in
+          record {
+            final = (λ q. absurd (apart (cc)), λ fin. clash (true-final p fin) ef);
+            justified = (⊎-elim (λ q. absurd (apart (cc))) (λ q. absurd (apart (cc))), λ just. clash (true-justified p just) ej);
+            plain = (λ q just. clash (true-justified p just) ej, λ n. s);
+          }
