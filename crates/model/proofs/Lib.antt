@@ -1,5 +1,9 @@
 pub mod Lists
+pub mod Growth
+pub mod Bytes
+pub mod Fields
 pub mod Tree
 pub mod Support
 pub mod Finality
+pub mod Run
 pub mod Cases

@@ -38,10 +38,15 @@ decideCheckpoint m name parent =
     (row 22 (leb checkpointLimit (length (m .checkpoints)))
     (answer (addCheckpoint (record { name = name; parent = p; height = heightOf (m .checkpoints) p + 1 })))))
 
+-- the heights that a vote gives are the tree's
+unfoldable pub heightsAgree : Model → Vote → ℕ → ℕ → Bool
+heightsAgree m v sourceHeight targetHeight =
+    eqb sourceHeight (heightOf (m .checkpoints) (v .source)) && eqb targetHeight (heightOf (m .checkpoints) (v .target))
+
 -- rows 33 to 36, on a vote between held places
 unfoldable pub decidePlaces : Model → Vote → ℕ → ℕ → Answer Change
 decidePlaces m v sourceHeight targetHeight =
-    row 33 (not (eqb sourceHeight (heightOf (m .checkpoints) (v .source)) && eqb targetHeight (heightOf (m .checkpoints) (v .target))))
+    row 33 (not (heightsAgree m v sourceHeight targetHeight))
     (row 34 (not (ancestor? (m .checkpoints) (v .source) (v .target)))
     (row 35 (voteHeld (m .votes) v)
     (row 36 (leb voteLimit (length (m .votes)))
