@@ -12,7 +12,7 @@ use Rattle.model.specs.Answer.{Answer, refused, answer, row}
 use Rattle.model.specs.Bytes.{AreBytes, part, field}
 use Rattle.model.specs.Decide.{membersFixed, idHeld, nameHeld, decideMember, decideCheckpoint, heightsAgree, decidePlaces, decideVote, decideRecord, decide}
 use Rattle.model.specs.Limits.{memberLimit, checkpointLimit, voteLimit, bondLimit, rootHeight}
-use Rattle.model.specs.Lists.{sameBytes, any}
+use Rattle.model.specs.Lists.{sameBytes, any, All, none, each}
 use Rattle.model.specs.Log.{Record, nothingLeft, unknownKind, cutRecord, memberRecord, checkpointRecord, voteRecord, decode, decodeWhole, recordSize}
 use Rattle.model.specs.Model.{Model, Member, Checkpoint, Vote, Change, nothing, addMember, addCheckpoint, addVote, start, append, apply}
 use Rattle.model.specs.Model.{memberAt, checkpointAt, voteAt, heightOf, parentOf, memberIndex, placeOf, sameVote, voteHeld, noMember, noCheckpoint, noVote}
@@ -257,16 +257,11 @@ pub event-good : (root : ℕ) (m : Model) → WellFormed root m → (e : Event) 
 unfolding decideEvent decide
 event-good root m good (reading s) h = record-kept root m good (decode s) (decoded-narrow s h)
 
--- each event reads bytes
-pub data AllOfBytes : List Event → Type 0 where
-  none : AllOfBytes []
-  next : {e : Event} {es : List Event} → OfBytes e → AllOfBytes es → AllOfBytes (e ∷ es)
-
-pub run-good : (root : ℕ) (m : Model) (es : List Event) → WellFormed root m → AllOfBytes es → WellFormed root (after m es)
+pub run-good : (root : ℕ) (m : Model) (es : List Event) → WellFormed root m → All OfBytes es → WellFormed root (after m es)
 unfolding after
 run-good root m [] good none = good
-run-good root m (e ∷ es) good (next h hs) = run-good root (apply m (decideEvent m e)) es (event-good root m good e h) hs
+run-good root m (e ∷ es) good (each h hs) = run-good root (apply m (decideEvent m e)) es (event-good root m good e h) hs
 
 -- every run from a root's name
-pub reached-good : (name : List ℕ) (es : List Event) → AllOfBytes es → WellFormed rootHeight (after (start name) es)
+pub reached-good : (name : List ℕ) (es : List Event) → All OfBytes es → WellFormed rootHeight (after (start name) es)
 reached-good name es h = run-good rootHeight (start name) es (start-good name) h
