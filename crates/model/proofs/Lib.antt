@@ -1,9 +1,13 @@
 pub mod Lists
 pub mod Growth
+pub mod Answer
 pub mod Bytes
-pub mod Fields
 pub mod Tree
 pub mod Support
 pub mod Finality
+pub mod Slashing
+pub mod Conduct
+pub mod Charges
+pub mod Checker
 pub mod Run
 pub mod Cases

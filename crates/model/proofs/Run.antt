@@ -19,15 +19,11 @@ use Rattle.model.specs.Model.{memberAt, checkpointAt, voteAt, heightOf, 
 use Rattle.model.specs.Run.{Event, reading, decideEvent, after, OfBytes}
 use Rattle.model.specs.Tree.{Child, Ancestor, near, far, ancestor?}
 use Rattle.model.specs.WellFormed.{GoodMembers, GoodTree, GoodVote, WellFormed}
-use Rattle.model.proofs.Fields.{field-below}
+use Rattle.model.proofs.Answer.{row-elim}
+use Rattle.model.proofs.Bytes.{field-below}
 use Rattle.model.proofs.Growth.{grown-length, grown-old, grown-new, grown-all, grown-pairs}
 use Rattle.model.proofs.Lists.{any-first, none-any, both, and-left, and-right, or-left, or-right, clash, decided, not-so, lt-or-ge, same-eq, eq-same}
 use Rattle.model.proofs.Tree.{ancestor-true}
-
--- by a row: refused, or it does not apply and the later rows decide
-pub row-elim : {A : Type 0} (P : Answer A → Type 0) (n : ℕ) (b : Bool) (later : Answer A) → P (refused n) → (b ≡ false → P later) → P (row n b later)
-row-elim P n true later yes-row no-row = yes-row
-row-elim P n false later yes-row no-row = no-row refl
 
 or-false-left : (a b : Bool) → (a || b) ≡ false → a ≡ false
 or-false-left a b e = not-so (λ h. clash (or-left a b h) e)
@@ -249,7 +245,7 @@ decoded-narrow (kind ∷ s) h = by-size (eqb (recordSize kind) 0) (ltb (length (
         → Narrow (cond unknown unknownKind (cond cut cutRecord (cond one (memberRecord (field 1 2 all) (field 3 8 all)) (cond two (checkpointRecord (part 1 32 all) (part 33 32 all)) (voteRecord (field 1 2 all) (part 3 32 all) (part 35 32 all) (field 67 4 all) (field 71 4 all))))))
     by-size true cut one two = tt
     by-size false true one two = tt
-    by-size false false true two = field-below all h 1 2
+    by-size false false true two = field-below 1 2 all h
     by-size false false false true = tt
     by-size false false false false = tt
 

@@ -9,45 +9,61 @@ use borrow.Author.Tests.{eqb-true, eq-eqb, ltb-true, leb-true, lt-ltb, le-leb}
 use lib.ListN.{length, getD}
 use lib.Dec.{eqb, ltb, leb}
 use Rattle.model.specs.Lists.{any}
-use Rattle.model.specs.Model.{Model, Member, Vote, voteAt, voteHeld, sameVote, noVote, noMember}
+use Rattle.model.specs.Model.{Model, Member, Vote, voteFor, voteAt, voteHeld, sameVote, noVote, noMember}
 use Rattle.model.specs.Support.{count, sum, total, supports, quorum, Support, support, link?, Link}
 use Rattle.model.specs.Tree.{Ancestor}
 use Rattle.model.specs.WellFormed.{WellFormed, GoodVote}
 use Rattle.model.proofs.Lists.{Found, any-found, found-any, none-any, both, and-left, and-right, clash, decided, not-so}
 
--- a vote of this member from s to t, by its number
-pub record Votes (m : Model) (id s t : ℕ) : Type 0 where
-  pub at : ℕ
-  pub inside : at < length (m .votes)
-  pub voter : voteAt (m .votes) at .voter ≡ id
-  pub source : voteAt (m .votes) at .source ≡ s
-  pub target : voteAt (m .votes) at .target ≡ t
+-- a vote among those held, by its number
+pub record Held (vs : List Vote) (w : Vote) : Type 0 where
+  pub number : ℕ
+  pub inside : number < length vs
+  pub is : voteAt vs number ≡ w
 
-pub same-parts : (v w : Vote) → sameVote v w ≡ true → (v .voter ≡ w .voter) × (v .source ≡ w .source) × (v .target ≡ w .target)
-same-parts v w e =
-    let first = and-left (eqb (v .voter) (w .voter) && eqb (v .source) (w .source)) (eqb (v .target) (w .target)) e in (
-      eqb-true (v .voter) (w .voter) (and-left (eqb (v .voter) (w .voter)) (eqb (v .source) (w .source)) first),
-      eqb-true (v .source) (w .source) (and-right (eqb (v .voter) (w .voter)) (eqb (v .source) (w .source)) first),
-      eqb-true (v .target) (w .target) (and-right (eqb (v .voter) (w .voter) && eqb (v .source) (w .source)) (eqb (v .target) (w .target)) e),
-    )
+pub same-vote : (v w : Vote) → sameVote v w ≡ true → v ≡ w
+same-vote v w e =
+    λ i.
+    record {
+      voter = eqb-true (v .voter) (w .voter) (and-left voter source first-two) i;
+      source = eqb-true (v .source) (w .source) (and-right voter source first-two) i;
+      target = eqb-true (v .target) (w .target) (and-right (voter && source) target e) i;
+    }
+  where
+    voter : Bool
+    voter = eqb (v .voter) (w .voter)
 
-pub parts-same : (v w : Vote) → v .voter ≡ w .voter → v .source ≡ w .source → v .target ≡ w .target → sameVote v w ≡ true
-parts-same v w p q r = both (both (eq-eqb (v .voter) (w .voter) p) (eq-eqb (v .source) (w .source) q)) (eq-eqb (v .target) (w .target) r)
+    source : Bool
+    source = eqb (v .source) (w .source)
 
-module _ (m : Model) (s t : ℕ) where
-  -- a member supports a link exactly when it holds a vote for it
-  pub supports-votes : (x : Member) → supports m s t x ≡ true → Votes m (x .id) s t
-  unfolding supports voteHeld voteAt
-  supports-votes x e =
-      let f = any-found (λ v. sameVote v (record { voter = x .id; source = s; target = t })) noVote (m .votes) e in
-      let p = same-parts (getD (m .votes) (f .at) noVote) (record { voter = x .id; source = s; target = t }) (f .passes) in
-      record { at = f .at; inside = f .inside; voter = p .0; source = p .1; target = p .2 }
+    target : Bool
+    target = eqb (v .target) (w .target)
 
-  pub votes-supports : (x : Member) → Votes m (x .id) s t → supports m s t x ≡ true
-  unfolding supports voteHeld voteAt
-  votes-supports x v =
-      found-any (λ w. sameVote w (record { voter = x .id; source = s; target = t })) noVote (m .votes) (v .at) (v .inside)
-      (parts-same (getD (m .votes) (v .at) noVote) (record { voter = x .id; source = s; target = t }) (v .voter) (v .source) (v .target))
+    first-two : (voter && source) ≡ true
+    first-two = and-left (voter && source) target e
+
+pub vote-same : (v w : Vote) → v ≡ w → sameVote v w ≡ true
+vote-same v w e = subst (λ (u : Vote). sameVote v u ≡ true) e (both (both (eq-eqb (v .voter) (v .voter) refl) (eq-eqb (v .source) (v .source) refl)) (eq-eqb (v .target) (v .target) refl))
+
+-- row 35's test is true exactly when the vote is among those held
+pub held-true : (vs : List Vote) (w : Vote) → voteHeld vs w ≡ true → Held vs w
+unfolding voteHeld voteAt
+held-true vs w e =
+    let f = any-found (λ v. sameVote v w) noVote vs e in
+    record { number = f .at; inside = f .inside; is = same-vote (getD vs (f .at) noVote) w (f .passes) }
+
+pub true-held : (vs : List Vote) (w : Vote) → Held vs w → voteHeld vs w ≡ true
+unfolding voteHeld voteAt
+true-held vs w h = found-any (λ v. sameVote v w) noVote vs (h .number) (h .inside) (vote-same (getD vs (h .number) noVote) w (h .is))
+
+-- a member supports a link exactly when it holds a vote for it
+pub supports-held : (m : Model) (s t : ℕ) (x : Member) → supports m s t x ≡ true → Held (m .votes) (voteFor (x .id) s t)
+unfolding supports
+supports-held m s t x e = held-true (m .votes) (voteFor (x .id) s t) e
+
+pub held-supports : (m : Model) (s t : ℕ) (x : Member) → Held (m .votes) (voteFor (x .id) s t) → supports m s t x ≡ true
+unfolding supports
+held-supports m s t x h = true-held (m .votes) (voteFor (x .id) s t) h
 
 -- where nobody passes the test, nobody is counted and no bond
 pub none-counted : (p : Member → Bool) (ms : List Member) → any p ms ≡ false → (count p ms ≡ 0) × (sum p ms ≡ 0)
@@ -76,12 +92,12 @@ pub no-quorum : (whole : ℕ) → quorum 0 whole ≡ false
 no-quorum whole = not-so (λ e. omega (arith, quorum-parts 0 whole e))
 
 -- "0, 0 and no where there are no votes"
-pub no-votes : (m : Model) (s t : ℕ) → ((x : Member) → Votes m (x .id) s t → ⊥) → support m s t ≡ record { number = 0; bonds = 0; yes? = false }
+pub no-votes : (m : Model) (s t : ℕ) → ((x : Member) → Held (m .votes) (voteFor (x .id) s t) → ⊥) → support m s t ≡ record { number = 0; bonds = 0; yes? = false }
 unfolding support quorum
 no-votes m s t none =
     let p = supports m s t in
     let nobody : any p (m .members) ≡ false = ⊎-elim
-    (λ e. let f = any-found p noMember (m .members) e in absurd (none (getD (m .members) (f .at) noMember) (supports-votes m s t (getD (m .members) (f .at) noMember) (f .passes))))
+    (λ e. let f = any-found p noMember (m .members) e in absurd (none (getD (m .members) (f .at) noMember) (supports-held m s t (getD (m .members) (f .at) noMember) (f .passes))))
     (λ e. e)
     (decided (any p (m .members))) in
     let zero-each = none-counted p (m .members) nobody in
@@ -96,14 +112,14 @@ pub link-voter : (m : Model) (s t : ℕ) → Link m s t → Found (supports m s 
 link-voter m s t l = sum-someone (supports m s t) (m .members) (omega (arith, quorum-parts _ _ (link-quorum m s t l)))
 
 module _ (root : ℕ) (m : Model) (good : WellFormed root m) where
-  pub link-climbs : (s t : ℕ) → Link m s t → Ancestor (m .checkpoints) s t
-  link-climbs s t l =
+  link-vote : (s t : ℕ) → Link m s t → (v : Vote) × GoodVote (m .members) (m .checkpoints) v × (v .source ≡ s) × (v .target ≡ t)
+  link-vote s t l =
       let f = link-voter m s t l in
-      let v = supports-votes m s t (getD (m .members) (f .at) noMember) (f .passes) in
-      subst₂ (λ (a b : ℕ). Ancestor (m .checkpoints) a b) (v .source) (v .target) (good .votes (v .at) (v .inside) .climbs)
+      let h = supports-held m s t (getD (m .members) (f .at) noMember) (f .passes) in
+      (voteAt (m .votes) (h .number), good .votes (h .number) (h .inside), ap (λ (v : Vote). v .source) (h .is), ap (λ (v : Vote). v .target) (h .is))
+
+  pub link-climbs : (s t : ℕ) → Link m s t → Ancestor (m .checkpoints) s t
+  link-climbs s t l = let v = link-vote s t l in subst₂ (λ (a b : ℕ). Ancestor (m .checkpoints) a b) (v .2) (v .3) (v .1 .climbs)
 
   pub link-held : (s t : ℕ) → Link m s t → t < length (m .checkpoints)
-  link-held s t l =
-      let f = link-voter m s t l in
-      let v = supports-votes m s t (getD (m .members) (f .at) noMember) (f .passes) in
-      subst (λ (b : ℕ). b < length (m .checkpoints)) (v .target) (good .votes (v .at) (v .inside) .target)
+  link-held s t l = let v = link-vote s t l in subst (λ (b : ℕ). b < length (m .checkpoints)) (v .3) (v .1 .target)

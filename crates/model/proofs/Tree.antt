@@ -38,6 +38,10 @@ module _ (cs : List Checkpoint) where
       (λ h. far (reached-ancestor n a p (and-right (child? cs p b) (reached? cs n a p) h)) (child-true p b (and-left (child? cs p b) (reached? cs n a p) h)))
       (or-cases (child? cs a b) (child? cs p b && reached? cs n a p) e)
 
+pub ancestor-trans : {cs : List Checkpoint} {a b c : ℕ} → Ancestor cs a b → Ancestor cs b c → Ancestor cs a c
+ancestor-trans up (near c) = far up c
+ancestor-trans up (far over c) = far (ancestor-trans up over) c
+
 module _ (root : ℕ) (cs : List Checkpoint) (tree : GoodTree root cs) where
   pub child-later : {a b : ℕ} → Child cs a b → a < b
   child-later {a} {b} c = subst (λ (p : ℕ). p < b) (c .from) (tree .parent b (c .later) (c .inside))

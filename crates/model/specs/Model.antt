@@ -88,6 +88,10 @@ memberIndex ms id = firstIndex (λ x. eqb (x .id) id) ms
 unfoldable pub placeOf : List Checkpoint → List ℕ → ℕ
 placeOf cs name = firstIndex (λ c. sameBytes (c .name) name) cs
 
+-- a member's vote s → t
+abbrev pub voteFor : ℕ → ℕ → ℕ → Vote
+voteFor id s t = record { voter = id; source = s; target = t }
+
 -- same member, source and target
 abbrev pub sameVote : Vote → Vote → Bool
 sameVote v w = eqb (v .voter) (w .voter) && eqb (v .source) (w .source) && eqb (v .target) (w .target)

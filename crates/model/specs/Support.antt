@@ -4,7 +4,7 @@ use mathlib.Core.Path.{_≡_}
 use mathlib.Core.List.{List, [], _∷_}
 use mathlib.Core.Bool.{Bool, true, false, cond, _&&_}
 use lib.Dec.{ltb, leb}
-use Rattle.model.specs.Model.{Model, Member, Vote, voteHeld}
+use Rattle.model.specs.Model.{Model, Member, voteFor, voteHeld}
 
 -- how many members pass the test
 unfoldable pub count : (Member → Bool) → List Member → ℕ
@@ -22,7 +22,7 @@ total ms = sum (λ x. true) ms
 
 -- the member holds a vote s → t, however many: each member is counted once
 unfoldable pub supports : Model → ℕ → ℕ → Member → Bool
-supports m s t x = voteHeld (m .votes) (record { voter = x .id; source = s; target = t })
+supports m s t x = voteHeld (m .votes) (voteFor (x .id) s t)
 
 -- document 01's supermajority: "when the total bond is above 0 and 3 × sum ≥ 2 × total"
 unfoldable pub quorum : ℕ → ℕ → Bool

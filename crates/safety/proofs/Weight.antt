@@ -1,0 +1,56 @@
+-- The weight half, with no tree: two sets of members that each hold a large share of the bonds overlap in a share.
+use Prim.Native.Nat.{ℕ, _+_, _*_, _-_, _≤_, zero-le}
+use native.Mathlib.Nat.{mul-le-mul-left, mul-add, mul-assoc, mul-comm, mul-sub}
+use native.Mathlib.Omega.{arith}
+use mathlib.Core.Path.{_≡_, refl}
+use mathlib.Core.List.{List, [], _∷_}
+use mathlib.Core.Bool.{Bool, true, false, cond, _&&_, false≢true}
+use Rattle.model.specs.Model.{Member}
+use Rattle.model.specs.Support.{sum, total, quorum}
+use Rattle.model.proofs.Support.{quorum-parts}
+
+-- only what stands in both sets is counted twice
+pub overlap : (A B : Member → Bool) (ms : List Member) → sum A ms + sum B ms ≤ total ms + sum (λ x. A x && B x) ms
+unfolding sum
+overlap A B [] = zero-le
+overlap A B (x ∷ xs) = go (overlap A B xs) (A x) (B x)
+  where
+    go : sum A xs + sum B xs ≤ total xs + sum (λ y. A y && B y) xs → (a b : Bool) →
+        cond a (x .bond) 0 + sum A xs + (cond b (x .bond) 0 + sum B xs) ≤ x .bond + total xs + (cond (a && b) (x .bond) 0 + sum (λ y. A y && B y) xs)
+    go ih true true = omega arith
+    go ih true false = omega arith
+    go ih false true = omega arith
+    go ih false false = omega arith
+
+sub-mul : (a b c : ℕ) → (a - b) * c ≡ a * c - b * c
+sub-mul a b c = cc (mul-comm (a - b) c, mul-sub c a b, mul-comm c a, mul-comm c b)
+
+-- where each of two sets holds p of q parts, the members in both hold 2p - q of q parts
+pub shared : (p q : ℕ) (A B : Member → Bool) (ms : List Member) →
+    p * total ms ≤ q * sum A ms → p * total ms ≤ q * sum B ms → (2 * p - q) * total ms ≤ q * sum (λ x. A x && B x) ms
+shared p q A B ms a b =
+    omega (
+      arith,
+      mul-le-mul-left q (overlap A B ms),
+      mul-add q (sum A ms) (sum B ms),
+      mul-add q (total ms) (sum (λ x. A x && B x) ms),
+      sub-mul (2 * p) q (total ms),
+      mul-assoc 2 p (total ms),
+    )
+
+-- a larger set holds no less
+pub sum-mono : {A B : Member → Bool} → ((x : Member) → A x ≡ true → B x ≡ true) → (ms : List Member) → sum A ms ≤ sum B ms
+unfolding sum
+sum-mono h [] = zero-le
+sum-mono {A} {B} h (x ∷ xs) = go (sum-mono h xs) (A x) (B x) (h x)
+  where
+    go : sum A xs ≤ sum B xs → (a b : Bool) → (a ≡ true → b ≡ true) → cond a (x .bond) 0 + sum A xs ≤ cond b (x .bond) 0 + sum B xs
+    go ih true true k = omega arith
+    go ih true false k = absurd (false≢true (k refl))
+    go ih false true k = omega arith
+    go ih false false k = omega arith
+
+-- at the quorum of the base, 2 of 3: at least a third is in both
+pub quorums-share : (A B : Member → Bool) (ms : List Member) →
+    quorum (sum A ms) (total ms) ≡ true → quorum (sum B ms) (total ms) ≡ true → total ms ≤ 3 * sum (λ x. A x && B x) ms
+quorums-share A B ms a b = omega (arith, shared 2 3 A B ms (quorum-parts (sum A ms) (total ms) a .1) (quorum-parts (sum B ms) (total ms) b .1))

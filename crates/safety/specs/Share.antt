@@ -1,0 +1,26 @@
+-- What two conflicting final checkpoints imply, and what no list that passes does: the two statements of this crate.
+use Prim.Native.Nat.{ℕ, _*_, _≤_}
+use mathlib.Core.Path.{_≡_}
+use mathlib.Core.List.{List, List·Memᴰ}
+use Rattle.model.specs.Answer.{answer}
+use Rattle.model.specs.Checker.{check}
+use Rattle.model.specs.Evidence.{Charge, Layout, KeepsRules, ourList}
+use Rattle.model.specs.Finality.{ConflictingFinals}
+use Rattle.model.specs.Lists.{All}
+use Rattle.model.specs.Model.{Model, start}
+use Rattle.model.specs.Run.{Event, OfBytes, after}
+use Rattle.model.specs.Support.{total}
+
+-- "our list passes the list checker and names at least a third of all bonds": 3 × sum ≥ total
+pub record ShareNamed (m : Model) : Type 0 where
+  pub named : ℕ
+  pub passes : check m (ourList m) ≡ answer named
+  pub share : total (m .members) ≤ 3 * named
+
+-- for every run: any root name, any list of readings of bytes
+abbrev pub AccountableSafety : Type 0
+AccountableSafety = (name : List ℕ) (es : List Event) → All OfBytes es → ConflictingFinals (after (start name) es) → ShareNamed (after (start name) es)
+
+-- no list that the checker passes, whoever wrote it, names a member whose votes keep both conditions
+abbrev pub NoneInnocent : Type 0
+NoneInnocent = (m : Model) (l : List ℕ) (cs : List Charge) (s : ℕ) → Layout l cs → check m l ≡ answer s → (c : Charge) → List·Memᴰ c cs → KeepsRules m (c .id) → ⊥
