@@ -1,0 +1,2 @@
+-- What the searches over the held tables say.
+pub mod Rows
