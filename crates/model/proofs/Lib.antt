@@ -9,5 +9,6 @@ pub mod Slashing
 pub mod Conduct
 pub mod Charges
 pub mod Checker
+pub mod Sound
 pub mod Run
 pub mod Cases

@@ -7,9 +7,10 @@ use mathlib.Core.Logic.{_⊎_, inl, inr, ⊎-elim}
 use mathlib.Core.List.{List, [], _∷_, _++_}
 use mathlib.Core.Bool.{Bool, true, false, cond, _&&_, _||_, not, true≢false, false≢true}
 use borrow.Author.Tests.{eqb-true, eqb-false, eq-eqb, ltb-true, ltb-false}
-use lib.ListN.{length, getD}
+use lib.ListN.{length, getD, length-append, List·getD-append}
+use lib.Seq.{getD-at}
 use lib.Dec.{eqb, ltb}
-use Rattle.model.specs.Lists.{any, firstIndex, anyBelow, sameBytes}
+use Rattle.model.specs.Lists.{allOf, any, firstIndex, anyBelow, allBelow, pairBelow, tabulate, sameBytes}
 
 -- ---- Booleans
 
@@ -50,8 +51,34 @@ pub decided : (a : Bool) → (a ≡ true) ⊎ (a ≡ false)
 decided true = inl refl
 decided false = inr refl
 
+or-nothing : (a : Bool) → (a || false) ≡ a
+or-nothing true = refl
+or-nothing false = refl
+
+or-assoc : (a b c : Bool) → (a || b || c) ≡ (a || (b || c))
+or-assoc true b c = refl
+or-assoc false b c = refl
+
 pub lt-or-ge : (a b : ℕ) → (a < b) ⊎ (b ≤ a)
 lt-or-ge a b = ⊎-elim (λ e. inl (ltb-true a b e)) (λ e. inr (ltb-false a b e)) (decided (ltb a b))
+
+-- ---- allOf: the first test of a list, and the others
+
+pub all-first : (b : Bool) (bs : List Bool) → allOf (b ∷ bs) ≡ true → b ≡ true
+unfolding allOf
+all-first b bs e = and-left b (allOf bs) e
+
+pub all-rest : (b : Bool) (bs : List Bool) → allOf (b ∷ bs) ≡ true → allOf bs ≡ true
+unfolding allOf
+all-rest b bs e = and-right b (allOf bs) e
+
+pub all-more : (b : Bool) (bs : List Bool) → b ≡ true → allOf bs ≡ true → allOf (b ∷ bs) ≡ true
+unfolding allOf
+all-more b bs p q = both p q
+
+pub all-none : allOf [] ≡ true
+unfolding allOf
+all-none = refl
 
 -- ---- any and firstIndex: the element at an index; `d` stands past the end
 
@@ -75,6 +102,11 @@ module _ {A : Type 0} (p : A → Bool) (d : A) where
   found-any [] k h e = absurd (omega arith)
   found-any (x ∷ xs) zero h e = or-left (p x) (any p xs) e
   found-any (x ∷ xs) (suc k) h e = or-right (p x) (any p xs) (found-any xs k (omega arith) e)
+
+  pub any-append : (xs : List A) (x : A) → any p (xs ++ x ∷ []) ≡ (any p xs || p x)
+  unfolding any
+  any-append [] x = or-nothing (p x)
+  any-append (y ∷ ys) x = ap (λ (b : Bool). p y || b) (any-append ys x) ∙ sym (or-assoc (p y) (any p ys) (p x))
 
   pub none-any : (xs : List A) → any p xs ≡ false → (k : ℕ) → k < length xs → p (getD xs k d) ≡ false
   none-any xs e k h = not-so (λ t. clash (found-any xs k h t) e)
@@ -161,3 +193,62 @@ same-refl (x ∷ xs) = both (eq-eqb x x refl) (same-refl xs)
 
 pub eq-same : (xs ys : List ℕ) → xs ≡ ys → sameBytes xs ys ≡ true
 eq-same xs ys e = subst (λ (zs : List ℕ). sameBytes xs zs ≡ true) e (same-refl xs)
+
+-- ---- allBelow and pairBelow
+
+pub all-true : (n : ℕ) (p : ℕ → Bool) → allBelow n p ≡ true → (i : ℕ) → i < n → p i ≡ true
+unfolding allBelow
+all-true zero p e i h = absurd (omega arith)
+all-true (suc n) p e i h =
+    ⊎-elim (λ l. all-true n p (and-left (allBelow n p) (p n) e) i l) (λ l. last (omega arith)) (lt-or-ge i n)
+  where
+    last : n ≡ i → p i ≡ true
+    last q = subst (λ (j : ℕ). p j ≡ true) q (and-right (allBelow n p) (p n) e)
+
+pub true-all : (n : ℕ) (p : ℕ → Bool) → ((i : ℕ) → i < n → p i ≡ true) → allBelow n p ≡ true
+unfolding allBelow
+true-all zero p h = refl
+true-all (suc n) p h = both (true-all n p (λ i l. h i (omega arith))) (h n (omega arith))
+
+pub no-pair : (n : ℕ) (p : ℕ → ℕ → Bool) → pairBelow n p ≡ false → (i j : ℕ) → i < j → j < n → p i j ≡ false
+unfolding pairBelow
+no-pair n p e i j h l = not-so (λ t. clash (found-below n (λ k. anyBelow k (λ a. p a k)) j l (found-below j (λ a. p a j) i h t)) e)
+
+pub pair-no : (n : ℕ) (p : ℕ → ℕ → Bool) → ((i j : ℕ) → i < j → j < n → p i j ≡ false) → pairBelow n p ≡ false
+unfolding pairBelow
+pair-no n p h =
+    not-so (λ t.
+    let b = below-found n (λ k. anyBelow k (λ a. p a k)) t in
+    let a = below-found (b .at) (λ i. p i (b .at)) (b .passes) in
+    clash (a .passes) (h (a .at) (b .at) (a .inside) (b .inside)))
+
+-- ---- tabulate
+
+module _ {A : Type 0} where
+  pub length-tabulate : (n : ℕ) (f : ℕ → A) → length (tabulate n f) ≡ n
+  unfolding tabulate
+  length-tabulate zero f = refl
+  length-tabulate (suc n) f = length-append (tabulate n f) (f n ∷ []) ∙ omega (arith, length-tabulate n f)
+
+  pub tabulate-at : (n : ℕ) (f : ℕ → A) (d : A) (i : ℕ) → i < n → getD (tabulate n f) i d ≡ f i
+  unfolding tabulate
+  tabulate-at zero f d i h = absurd (omega arith)
+  tabulate-at (suc n) f d i h =
+      ⊎-elim
+      (λ l. List·getD-append (tabulate n f) (f n ∷ []) d i (omega (arith, length-tabulate n f)) ∙ tabulate-at n f d i l)
+      (λ l. last (omega arith))
+      (lt-or-ge i n)
+    where
+      last : n ≡ i → getD (tabulate n f ++ f n ∷ []) i d ≡ f i
+      last e = subst (λ (k : ℕ). getD (tabulate n f ++ f n ∷ []) k d ≡ f k) e (getD-at (tabulate n f) (f n) [] d n (length-tabulate n f))
+
+  pub tabulate-same : (n : ℕ) (f g : ℕ → A) → ((i : ℕ) → i < n → f i ≡ g i) → tabulate n f ≡ tabulate n g
+  unfolding tabulate
+  tabulate-same zero f g h = refl
+  tabulate-same (suc n) f g h = ap₂ (λ (xs : List A) (x : A). xs ++ x ∷ []) (tabulate-same n f g (λ i l. h i (omega arith))) (h n (omega arith))
+
+  -- any over the list is anyBelow over the numbers
+  pub any-tabulate : (p : A → Bool) (n : ℕ) (f : ℕ → A) → any p (tabulate n f) ≡ anyBelow n (λ i. p (f i))
+  unfolding tabulate anyBelow any
+  any-tabulate p zero f = refl
+  any-tabulate p (suc n) f = any-append p (f 0) (tabulate n f) (f n) ∙ ap (λ (b : Bool). b || p (f n)) (any-tabulate p n f)
