@@ -8,7 +8,7 @@ use lib.ListN.{length, drop, replicate}
 use Rattle.model.specs.Answer.{Answer, refused, answer}
 use Rattle.model.specs.Bytes.{beOf, beBytes, field, ascii}
 use Rattle.model.specs.Checker.{check, checkFrom, entries, ownVote?}
-use Rattle.model.specs.Decide.{decide, decideRecord, decideMember, decideCheckpoint, decideVote, decidePlaces, heightsAgree, membersFixed, idHeld, nameHeld}
+use Rattle.model.specs.Decide.{decide, decideRecord, decideMember, decideCheckpoint, decideVote, decidePlaces, heightsAgree, bondOutOfRange, membersFixed, idHeld, nameHeld}
 use Rattle.model.specs.Evidence.{ourList, charges, chargeOf, conduct, conductFrom, broken?, violator?, byId, insertById, listBytes, entryBytes, bondOf}
 use Rattle.model.specs.Finality.{justifiedMarks, justified?, final?, status, conflicting?}
 use Rattle.model.specs.Lists.{any, anyBelow, firstIndex, sameBytes}
@@ -157,7 +157,7 @@ pub record WrongVersions : Type 0 where
 pub cases : MarkedCases × WrongVersions
 unfolding
     any anyBelow firstIndex sameBytes beOf beBytes field ascii start append apply memberAt checkpointAt voteAt memberIndex placeOf voteHeld
-    child? reached? ancestor? conflict? header recordSize decode decodeWhole decide decideRecord decideMember decideCheckpoint decideVote decidePlaces heightsAgree
+    child? reached? ancestor? conflict? header recordSize decode decodeWhole decide decideRecord decideMember decideCheckpoint decideVote decidePlaces heightsAgree bondOutOfRange
     membersFixed idHeld nameHeld decideEvent after outcomes readings count sum supports quorum support link? justifiedMarks justified? final? status conflicting?
     doubleVote? surroundVote? breaks? conductFrom conduct broken? violator? insertById byId digits decimal newline statusText checkpointLine checkpointLines
     conductText memberLine yesNo totalLine summary stops? stoppedLine refusedLine outcomeLine outcomeLines reportRun reportBody report flatMap

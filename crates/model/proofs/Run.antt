@@ -10,7 +10,7 @@ use lib.ListN.{length, getD}
 use lib.Dec.{eqb, ltb, leb}
 use Rattle.model.specs.Answer.{Answer, refused, answer, row}
 use Rattle.model.specs.Bytes.{AreBytes, part, field}
-use Rattle.model.specs.Decide.{membersFixed, idHeld, nameHeld, decideMember, decideCheckpoint, heightsAgree, decidePlaces, decideVote, decideRecord, decide}
+use Rattle.model.specs.Decide.{membersFixed, bondOutOfRange, idHeld, nameHeld, decideMember, decideCheckpoint, heightsAgree, decidePlaces, decideVote, decideRecord, decide}
 use Rattle.model.specs.Limits.{memberLimit, checkpointLimit, voteLimit, bondLimit, rootHeight}
 use Rattle.model.specs.Lists.{sameBytes, any, All, none, each}
 use Rattle.model.specs.Log.{Record, nothingLeft, unknownKind, cutRecord, memberRecord, checkpointRecord, voteRecord, decode, decodeWhole, recordSize}
@@ -123,7 +123,7 @@ module _ (root : ℕ) (m : Model) (good : WellFormed root m) where
   stays n = good
 
   member-kept : (x : Member) → x .id < 2 ^ 16 → Kept (decideMember m x)
-  unfolding decideMember membersFixed apply append
+  unfolding decideMember bondOutOfRange membersFixed apply append
   member-kept x id16 =
       row-elim Kept 10 _ _ (stays 10) λ fixed.
       row-elim Kept 11 _ _ (stays 11) λ bond.

@@ -22,10 +22,14 @@ idHeld m id = ltb (memberIndex (m .members) id) (length (m .members))
 unfoldable pub nameHeld : Model → List ℕ → Bool
 nameHeld m name = ltb (placeOf (m .checkpoints) name) (length (m .checkpoints))
 
+-- row 11: "bond 0 or above the limit"
+unfoldable pub bondOutOfRange : ℕ → Bool
+bondOutOfRange bond = eqb bond 0 || ltb bondLimit bond
+
 unfoldable pub decideMember : Model → Member → Answer Change
 decideMember m x =
     row 10 (membersFixed m)
-    (row 11 (eqb (x .bond) 0 || ltb bondLimit (x .bond))
+    (row 11 (bondOutOfRange (x .bond))
     (row 12 (idHeld m (x .id))
     (row 13 (leb memberLimit (length (m .members)))
     (answer (addMember x)))))

@@ -42,3 +42,8 @@ decode (kind ∷ s) =
     cond (eqb (recordSize kind) 0) unknownKind
     (cond (ltb (length (kind ∷ s)) (recordSize kind)) cutRecord
     (decodeWhole kind (kind ∷ s)))
+
+-- the bytes that reading on passes over: the record's, or none where it is unknown or cut, or nothing is left
+unfoldable pub recordLength : List ℕ → ℕ
+recordLength [] = 0
+recordLength (kind ∷ s) = cond (ltb (length (kind ∷ s)) (recordSize kind)) 0 (recordSize kind)

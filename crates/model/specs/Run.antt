@@ -4,11 +4,11 @@ use mathlib.Core.List.{List, [], _∷_}
 use mathlib.Core.Bool.{Bool, true, false, cond, _||_}
 use lib.ListN.{length, drop}
 use lib.Dec.{eqb, ltb}
-use Rattle.model.specs.Answer.{Answer}
+use Rattle.model.specs.Answer.{Answer, refused, answer}
 use Rattle.model.specs.Bytes.{AreBytes}
 use Rattle.model.specs.Decide.{decide}
 use Rattle.model.specs.Log.{recordSize}
-use Rattle.model.specs.Model.{Model, Change, apply}
+use Rattle.model.specs.Model.{Model, Change, nothing, addMember, addCheckpoint, addVote, apply}
 
 -- a reading: the bytes of any lent log from any offset on
 pub data Event : Type 0 where
@@ -16,6 +16,18 @@ pub data Event : Type 0 where
 
 unfoldable pub decideEvent : Model → Event → Answer Change
 decideEvent m (reading s) = decide m s
+
+-- what is told of a reading that is not refused
+pub data Told : Type 0 where
+  nothingLeft : Told
+  taken : Told
+
+unfoldable pub told : Answer Change → Answer Told
+told (refused n) = refused n
+told (answer nothing) = answer nothingLeft
+told (answer (addMember x)) = answer taken
+told (answer (addCheckpoint c)) = answer taken
+told (answer (addVote v)) = answer taken
 
 -- the model after the events
 unfoldable pub after : Model → List Event → Model

@@ -1,1 +1,3 @@
 pub mod State
+pub mod Tables
+pub mod Decision

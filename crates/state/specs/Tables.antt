@@ -1,0 +1,23 @@
+-- How the arrays hold a model: what the searches over them find is what the model's searches find.
+use Prim.Native.Nat.{ℕ, _*_, _<_}
+use mathlib.Core.Path.{_≡_}
+use mathlib.Core.List.{List}
+use mathlib.Core.Bool.{_&&_}
+use lib.ListN.{length, getD, take}
+use lib.Dec.{eqb}
+use Rattle.model.specs.Lists.{firstIndex, anyBelow, sameBytes}
+use Rattle.model.specs.Model.{Model, Vote, memberIndex, placeOf, heightOf, voteHeld}
+use Rattle.model.specs.declared.Height.{Height}
+use Rattle.tables.specs.Rows.{rows}
+use Rattle.state.specs.State.{height}
+
+pub record MembersHeld (m : Model) (ids : List ℕ) (n : ℕ) : Type 0 where
+  pub count : length (m .members) ≡ n
+  pub index : (id : ℕ) → memberIndex (m .members) id ≡ firstIndex (λ x. eqb x id) (take n ids)
+
+pub record NamesHeld (m : Model) (names : List ℕ) (n : ℕ) : Type 0 where
+  pub count : length (m .checkpoints) ≡ n
+  pub place : (name : List ℕ) → placeOf (m .checkpoints) name ≡ firstIndex (λ x. sameBytes x name) (rows n names)
+
+pub record HeightsHeld (m : Model) (heights : List Height) (n : ℕ) : Type 0 where
+  pub height : (i : ℕ) → i < n → heightOf (m .checkpoints) i ≡ getD heights i (height 0) .0
