@@ -252,3 +252,15 @@ module _ {A : Type 0} where
   unfolding tabulate anyBelow any
   any-tabulate p zero f = refl
   any-tabulate p (suc n) f = any-append p (f 0) (tabulate n f) (f n) ∙ ap (λ (b : Bool). b || p (f n)) (any-tabulate p n f)
+
+-- two searches find the same index where the tests agree place by place
+pub first-same : {A B : Type 0} (p : A → Bool) (q : B → Bool) (d : A) (e : B) (xs : List A) (ys : List B)
+    → length xs ≡ length ys
+    → ((i : ℕ) → i < length xs → p (getD xs i d) ≡ q (getD ys i e))
+    → firstIndex p xs ≡ firstIndex q ys
+unfolding firstIndex
+first-same p q d e [] [] l h = refl
+first-same p q d e [] (y ∷ ys) l h = absurd (omega arith)
+first-same p q d e (x ∷ xs) [] l h = absurd (omega arith)
+first-same p q d e (x ∷ xs) (y ∷ ys) l h =
+    ap₂ (λ (b : Bool) (n : ℕ). cond b 0 (suc n)) (h 0 (omega arith)) (first-same p q d e xs ys (omega arith) (λ i k. h (suc i) (omega arith)))

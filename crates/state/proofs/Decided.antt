@@ -9,12 +9,13 @@ use lib.Seq.{drop-drop}
 use lib.Dec.{eqb, ltb, leb}
 use Rattle.model.specs.Answer.{Answer, answer, row}
 use Rattle.model.specs.Bytes.{field, part}
-use Rattle.model.specs.Decide.{membersFixed, bondOutOfRange, idHeld, nameHeld, decideMember}
-use Rattle.model.specs.Lists.{firstIndex}
-use Rattle.model.specs.Limits.{bondLimit, memberLimit}
-use Rattle.model.specs.Model.{Model, Member, Change, addMember, memberIndex}
+use Rattle.model.specs.Decide.{membersFixed, bondOutOfRange, idHeld, nameHeld, decideMember, decideCheckpoint, decideVote, decidePlaces}
+use Rattle.model.specs.Lists.{firstIndex, sameBytes}
+use Rattle.model.specs.Limits.{bondLimit, memberLimit, checkpointLimit}
+use Rattle.model.specs.Model.{Model, Member, Vote, addMember, addCheckpoint, heightOf, placeOf}
 use Rattle.model.proofs.Lists.{or-left, or-right}
-use Rattle.state.specs.Tables.{MembersHeld}
+use Rattle.tables.specs.Rows.{rows}
+use Rattle.state.specs.Tables.{MembersHeld, NamesHeld}
 
 -- a part, and a field, of the bytes from an offset on
 pub part-at : (at i k : ℕ) (s : List ℕ) → part i k (drop at s) ≡ part (at + i) k s
@@ -49,3 +50,49 @@ bond-above b h = or-right (eqb b 0) (ltb bondLimit b) (lt-ltb bondLimit b h)
 pub bond-fits : (b : ℕ) → (b ≡ 0 → ⊥) → b ≤ bondLimit → bondOutOfRange b ≡ false
 unfolding bondOutOfRange
 bond-fits b n h = ap₂ _||_ (ne-eqb b 0 n) (le-ltb bondLimit b h)
+
+pub checkpoint-rows : (m : Model) (name parent : List ℕ) {b20 b21 b22 : Bool}
+    → nameHeld m name ≡ b20
+    → nameHeld m parent ≡ b21
+    → leb checkpointLimit (length (m .checkpoints)) ≡ b22
+    → decideCheckpoint m name parent
+    ≡ row 20 b20 (row 21 (not b21) (row 22 b22
+    (answer (addCheckpoint (record { name = name; parent = placeOf (m .checkpoints) parent; height = heightOf (m .checkpoints) (placeOf (m .checkpoints) parent) + 1 })))))
+unfolding decideCheckpoint
+checkpoint-rows m name parent e20 e21 e22 = rw (e20, e21, e22)
+
+-- the place found in the table is the model's, and so is whether the name is held; the name stands in the log at `at`
+module _ {m : Model} {names : List ℕ} {n : ℕ} (at i : ℕ) (log : List ℕ) {r : ℕ} where
+  pub found-name : NamesHeld m names n → r ≡ firstIndex (λ x. sameBytes x (part (at + i) 32 log)) (rows n names) → placeOf (m .checkpoints) (part i 32 (drop at log)) ≡ r
+  found-name h e = ap (placeOf (m .checkpoints)) (part-at at i 32 log) ∙ h .place (part (at + i) 32 log) ∙ sym e
+
+  pub held-name : NamesHeld m names n → r ≡ firstIndex (λ x. sameBytes x (part (at + i) 32 log)) (rows n names) → nameHeld m (part i 32 (drop at log)) ≡ ltb r n
+  unfolding nameHeld
+  held-name h e = ap₂ ltb (found-name h e) (h .count)
+
+-- a checkpoint that is taken: its parent's place as found, and one more than the height held there
+pub checkpoint-taken : (m : Model) (name parent : List ℕ) {p h : ℕ}
+    → nameHeld m name ≡ false
+    → nameHeld m parent ≡ true
+    → leb checkpointLimit (length (m .checkpoints)) ≡ false
+    → placeOf (m .checkpoints) parent ≡ p
+    → heightOf (m .checkpoints) p ≡ h
+    → answer (addCheckpoint (record { name = name; parent = p; height = h + 1 })) ≡ decideCheckpoint m name parent
+checkpoint-taken m name parent e20 e21 e22 ep eh =
+    sym (checkpoint-rows m name parent e20 e21 e22
+    ∙ λ i. answer (addCheckpoint (record { name = name; parent = ep i; height = (ap (heightOf (m .checkpoints)) ep ∙ eh) i + 1 })))
+
+pub vote-rows : (m : Model) (id : ℕ) (source target : List ℕ) (sourceHeight targetHeight : ℕ) {b30 b31 b32 : Bool} {i s t : ℕ}
+    → id ≡ i
+    → idHeld m id ≡ b30
+    → nameHeld m source ≡ b31
+    → nameHeld m target ≡ b32
+    → placeOf (m .checkpoints) source ≡ s
+    → placeOf (m .checkpoints) target ≡ t
+    → decideVote m id source target sourceHeight targetHeight
+    ≡ row 30 (not b30) (row 31 (not b31) (row 32 (not b32) (decidePlaces m (record { voter = i; source = s; target = t }) sourceHeight targetHeight)))
+unfolding decideVote
+vote-rows m id source target sourceHeight targetHeight {b30} {b31} {b32} e e30 e31 e32 es et =
+    rw (e30, e31, e32)
+    (ap (λ (v : Vote). row 30 (not b30) (row 31 (not b31) (row 32 (not b32) (decidePlaces m v sourceHeight targetHeight))))
+    (λ k. record { voter = e k; source = es k; target = et k }))

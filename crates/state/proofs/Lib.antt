@@ -1,1 +1,3 @@
 pub mod Decided
+pub mod Held
+pub mod Store

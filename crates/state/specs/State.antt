@@ -1,8 +1,9 @@
 -- The model that a witness holds, and the witness with something more.
 use Prim.Native.Nat.{ℕ, _+_, _*_}
 use mathlib.Core.Path.{_≡_}
-use mathlib.Core.List.{List, [], _++_}
-use lib.ListN.{length, getD, set, take, drop}
+use mathlib.Core.List.{List}
+use lib.ListN.{length, getD, set}
+use lib.Seq.{paste}
 use Rattle.model.specs.Answer.{Answer, refused, answer}
 use Rattle.model.specs.Bytes.{part}
 use Rattle.model.specs.Lists.{tabulate}
@@ -36,3 +37,61 @@ modelOf w =
       checkpoints = tabulate (w .«checkpoint_count») (checkpointIn w);
       votes = tabulate (w .«vote_count») (voteIn w);
     }
+
+-- one more of each, at the end; the array's later entries stay as they are
+
+unfoldable pub withMember : Witness → Member → Witness
+withMember w x =
+    record {
+      ids = set (w .ids) (w .«member_count») (x .id);
+      bonds = set (w .bonds) (w .«member_count») (x .bond);
+      names = w .names;
+      parents = w .parents;
+      heights = w .heights;
+      voters = w .voters;
+      sources = w .sources;
+      targets = w .targets;
+      «member_count» = w .«member_count» + 1;
+      «checkpoint_count» = w .«checkpoint_count»;
+      «vote_count» = w .«vote_count»;
+    }
+
+unfoldable pub withCheckpoint : Witness → Checkpoint → Witness
+withCheckpoint w c =
+    record {
+      ids = w .ids;
+      bonds = w .bonds;
+      names = paste (w .names) (w .«checkpoint_count» * 32) (c .name) 32;
+      parents = set (w .parents) (w .«checkpoint_count») (place (c .parent));
+      heights = set (w .heights) (w .«checkpoint_count») (height (c .height));
+      voters = w .voters;
+      sources = w .sources;
+      targets = w .targets;
+      «member_count» = w .«member_count»;
+      «checkpoint_count» = w .«checkpoint_count» + 1;
+      «vote_count» = w .«vote_count»;
+    }
+
+unfoldable pub withVote : Witness → Vote → Witness
+withVote w v =
+    record {
+      ids = w .ids;
+      bonds = w .bonds;
+      names = w .names;
+      parents = w .parents;
+      heights = w .heights;
+      voters = set (w .voters) (w .«vote_count») (v .voter);
+      sources = set (w .sources) (w .«vote_count») (place (v .source));
+      targets = set (w .targets) (w .«vote_count») (place (v .target));
+      «member_count» = w .«member_count»;
+      «checkpoint_count» = w .«checkpoint_count»;
+      «vote_count» = w .«vote_count» + 1;
+    }
+
+-- what was decided, stored; a refusal changes nothing
+unfoldable pub store : Witness → Answer Change → Witness
+store w (refused n) = w
+store w (answer nothing) = w
+store w (answer (addMember x)) = withMember w x
+store w (answer (addCheckpoint c)) = withCheckpoint w c
+store w (answer (addVote v)) = withVote w v

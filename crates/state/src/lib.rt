@@ -4,12 +4,14 @@ use model::Place;
 use model::Refusal;
 ghost use mathlib.Core.Path.{_≡_};
 ghost use mathlib.Core.List.{List};
-ghost use Prim.Native.Nat.{ℕ, _≤_};
-ghost use lib.ListN.{length};
+ghost use Prim.Native.Nat.{ℕ, _+_, _*_, _≤_, _<_};
+ghost use lib.ListN.{length, drop, getD};
+ghost use Rattle.model.specs.Bytes.{field, part};
 ghost use Rattle.model.specs.Model.{Model};
-ghost use Rattle.model.specs.Decide.{membersFixed, decideMember};
-ghost use Rattle.state.specs.Tables.{MembersHeld};
-ghost use Rattle.state.specs.Decision.{decisionOf};
+ghost use Rattle.model.specs.Decide.{membersFixed, decideMember, decideCheckpoint, decideVote};
+ghost use Rattle.state.specs.Tables.{MembersHeld, NamesHeld, HeightsHeld};
+ghost use Rattle.state.specs.Decision.{decisionOf, voteBetween};
+ghost use Rattle.state.specs.State.{height};
 
 // What is held, in arrays: of each, the first so many entries as its count says; what stands past them means nothing.
 // A name is 32 bytes of `names`, at 32 times its place.
@@ -62,4 +64,80 @@ fn decide_member(ids: &[u16], count: usize, fixed: bool, id: u16, bond: u64) -> 
         return Decision::Refuse(Refusal::MembersFull);
     }
     Decision::Member(id, bond)
+}
+
+// Rows 20 to 22, on the checkpoint record at `at`. No height is so large that a child's would not fit.
+fn decide_checkpoint(
+    names: &[u8],
+    heights: [Height; 512],
+    count: usize,
+    log: &[u8],
+    at: usize,
+) -> Decision
+    requires { ⌜ (32 * count ≤ length (now names)) × (count ≤ 512) × (at + 65 ≤ length (now log)) ⌝ }
+    requires { ⌜ ((i : ℕ) → i < count → getD heights i (height 0) .0 < 4294967295) ⌝ }
+    ensures { λ r. ⌜
+        ((m : Model)
+        → NamesHeld m (now (names .entry)) count
+        → HeightsHeld m heights count
+        → decisionOf (drop at (now (log .entry))) r
+        ≡ decideCheckpoint m (part 1 32 (drop at (now (log .entry)))) (part 33 32 (drop at (now (log .entry)))))
+        ⌝ }
+{
+    if tables::find_name(names, count, log, at + 1) < count {
+        return Decision::Refuse(Refusal::NameHeld);
+    }
+    let p = tables::find_name(names, count, log, at + 33);
+    if count <= p {
+        return Decision::Refuse(Refusal::ParentNotHeld);
+    }
+    if 512 <= count {
+        return Decision::Refuse(Refusal::CheckpointsFull);
+    }
+    let above = heights[p];
+    Decision::Checkpoint(Place(p as u16), Height(above.0 + 1))
+}
+
+// A vote's member and the places of its two names, or the row that refuses it.
+pub enum Endpoints {
+    Refuse(Refusal),
+    Between(u16, Place, Place),
+}
+
+// Rows 30 to 32, on the vote record at `at`.
+fn find_endpoints<'a>(
+    ids: &'a [u16],
+    members: usize,
+    names: &'a [u8],
+    checkpoints: usize,
+    log: &[u8],
+    at: usize,
+) -> Endpoints
+    requires { ⌜ (members ≤ length (now ids)) × (32 * checkpoints ≤ length (now names)) × (checkpoints ≤ 512) × (at + 75 ≤ length (now log)) ⌝ }
+    ensures { λ r. ⌜
+        ((m : Model) (sourceHeight targetHeight : ℕ)
+        → MembersHeld m (now (ids .entry)) members
+        → NamesHeld m (now (names .entry)) checkpoints
+        → voteBetween m r sourceHeight targetHeight
+        ≡ decideVote m
+        (field 1 2 (drop at (now (log .entry))))
+        (part 3 32 (drop at (now (log .entry))))
+        (part 35 32 (drop at (now (log .entry))))
+        sourceHeight
+        targetHeight)
+        ⌝ }
+{
+    let id = wire::be16(log, at + 1);
+    if members <= tables::find_id(ids, members, id) {
+        return Endpoints::Refuse(Refusal::VoterNotHeld);
+    }
+    let s = tables::find_name(names, checkpoints, log, at + 3);
+    if checkpoints <= s {
+        return Endpoints::Refuse(Refusal::SourceNotHeld);
+    }
+    let t = tables::find_name(names, checkpoints, log, at + 35);
+    if checkpoints <= t {
+        return Endpoints::Refuse(Refusal::TargetNotHeld);
+    }
+    Endpoints::Between(id, Place(s as u16), Place(t as u16))
 }

@@ -1,0 +1,123 @@
+-- Storing what was decided adds exactly that to the model.
+use Prim.Native.Nat.{ℕ, zero, suc, _+_, _*_, _<_, _≤_}
+use native.Mathlib.Omega.{arith}
+use native.Mathlib.Numerals.{add-one}
+use mathlib.Core.Path.{_≡_, refl, sym, ap, ap₂, _∙_, subst}
+use mathlib.Core.List.{List, [], _∷_, _++_, append-assoc}
+use lib.ListN.{length, getD, set, take, drop, length-drop, take-append-drop}
+use lib.Seq.{paste, getD-set-same, getD-set-other, take-at, drop-at, take-all, length-take-le, take-append-le, drop-append-le}
+use Rattle.model.specs.Answer.{Answer, refused, answer}
+use Rattle.model.specs.Bytes.{part}
+use Rattle.model.specs.Lists.{tabulate}
+use Rattle.model.specs.Model.{Model, Member, Checkpoint, Vote, Change, nothing, addMember, addCheckpoint, addVote, append, apply}
+use Rattle.model.proofs.Lists.{tabulate-same}
+use Rattle.state.specs.declared.Witness.{Witness}
+use Rattle.state.specs.State.{place, height, memberIn, checkpointIn, voteIn, modelOf, withMember, withCheckpoint, withVote, store}
+
+-- the arrays' lengths, as their types say
+pub record Sized (w : Witness) : Type 0 where
+  pub ids : length (w .ids) ≡ 128
+  pub bonds : length (w .bonds) ≡ 128
+  pub names : length (w .names) ≡ 16384
+  pub parents : length (w .parents) ≡ 512
+  pub heights : length (w .heights) ≡ 512
+  pub voters : length (w .voters) ≡ 4096
+  pub sources : length (w .sources) ≡ 4096
+  pub targets : length (w .targets) ≡ 4096
+
+-- one more entry of a table
+one-more : {A : Type 0} (n : ℕ) (f g : ℕ → A) (x : A) → ((i : ℕ) → i < n → g i ≡ f i) → g n ≡ x → tabulate (n + 1) g ≡ tabulate n f ++ x ∷ []
+unfolding tabulate
+one-more {A} n f g x old new = rw add-one (ap₂ (λ (xs : List A) (y : A). xs ++ y ∷ []) (tabulate-same n g f old) new)
+
+module _ {A : Type 0} (l : List A) (n : ℕ) (v d : A) where
+  set-new : n < length l → getD (set l n v) n d ≡ v
+  set-new h = getD-set-same l n v d h
+
+  set-old : (i : ℕ) → i < n → getD (set l n v) i d ≡ getD l i d
+  set-old i h = getD-set-other l n i v d (λ e. omega arith)
+
+-- what stands in front is read from there, whatever follows
+front : (p r : List ℕ) (k m : ℕ) → k + m ≤ length p → part k m (p ++ r) ≡ part k m p
+front p r k m h = ap (take m) (drop-append-le k p r (omega arith)) ∙ take-append-le m (drop k p) r (omega (arith, length-drop k p))
+
+-- names pasted into the flat table
+module _ (d : List ℕ) (n : ℕ) (name : List ℕ) (fits : n * 32 + 32 ≤ length d) (long : length name ≡ 32) where
+  paste-new : part (n * 32) 32 (paste d (n * 32) name 32) ≡ name
+  paste-new =
+      ap (part (n * 32) 32) (append-assoc (take (n * 32) d) (take 32 name) (drop (n * 32 + 32) d))
+      ∙ ap (take 32) (drop-at (take (n * 32) d) (take 32 name ++ drop (n * 32 + 32) d) (n * 32) (length-take-le (n * 32) d (omega arith)))
+      ∙ take-at (take 32 name) (drop (n * 32 + 32) d) 32 (length-take-le 32 name (omega arith))
+      ∙ take-all 32 name (omega arith)
+
+  paste-old : (i : ℕ) → i < n → part (i * 32) 32 (paste d (n * 32) name 32) ≡ part (i * 32) 32 d
+  paste-old i h =
+      let inside : i * 32 + 32 ≤ length (take (n * 32) d) = omega (arith, length-take-le (n * 32) d (omega arith)) in
+      ap (part (i * 32) 32) (append-assoc (take (n * 32) d) (take 32 name) (drop (n * 32 + 32) d))
+      ∙ front (take (n * 32) d) (take 32 name ++ drop (n * 32 + 32) d) (i * 32) 32 inside
+      ∙ sym (front (take (n * 32) d) (drop (n * 32) d) (i * 32) 32 inside)
+      ∙ ap (part (i * 32) 32) (take-append-drop (n * 32) d)
+
+module _ (w : Witness) (sized : Sized w) where
+  pub store-member : (x : Member) → w .«member_count» < 128 → modelOf (withMember w x) ≡ append (modelOf w) (addMember x)
+  unfolding modelOf withMember append
+  store-member x room =
+      let n = w .«member_count» in
+      λ k.
+      record {
+        members = one-more n (memberIn w) (memberIn (withMember w x)) x
+            (λ i h. λ j. record { id = set-old (w .ids) n (x .id) 0 i h j; bond = set-old (w .bonds) n (x .bond) 0 i h j })
+            (λ j. record { id = set-new (w .ids) n (x .id) 0 (omega (arith, sized .ids)) j; bond = set-new (w .bonds) n (x .bond) 0 (omega (arith, sized .bonds)) j })
+            k;
+        checkpoints = tabulate (w .«checkpoint_count») (checkpointIn w);
+        votes = tabulate (w .«vote_count») (voteIn w);
+      }
+
+  pub store-checkpoint : (c : Checkpoint) → w .«checkpoint_count» < 512 → length (c .name) ≡ 32 → modelOf (withCheckpoint w c) ≡ append (modelOf w) (addCheckpoint c)
+  unfolding modelOf withCheckpoint append
+  store-checkpoint c room long =
+      let n = w .«checkpoint_count» in
+      let fits : n * 32 + 32 ≤ length (w .names) = omega (arith, sized .names) in
+      λ k.
+      record {
+        members = tabulate (w .«member_count») (memberIn w);
+        checkpoints = one-more n (checkpointIn w) (checkpointIn (withCheckpoint w c)) c
+          (λ i h. λ j.
+            record {
+              name = paste-old (w .names) n (c .name) fits long i h j;
+              parent = set-old (w .parents) n (place (c .parent)) (place 0) i h j .0;
+              height = set-old (w .heights) n (height (c .height)) (height 0) i h j .0
+            })
+          (λ j.
+            record {
+              name = paste-new (w .names) n (c .name) fits long j;
+              parent = set-new (w .parents) n (place (c .parent)) (place 0) (omega (arith, sized .parents)) j .0;
+              height = set-new (w .heights) n (height (c .height)) (height 0) (omega (arith, sized .heights)) j .0
+            })
+          k;
+        votes = tabulate (w .«vote_count») (voteIn w)
+      }
+
+  pub store-vote : (v : Vote) → w .«vote_count» < 4096 → modelOf (withVote w v) ≡ append (modelOf w) (addVote v)
+  unfolding modelOf withVote append
+  store-vote v room =
+      let n = w .«vote_count» in
+      λ k.
+      record {
+        members = tabulate (w .«member_count») (memberIn w);
+        checkpoints = tabulate (w .«checkpoint_count») (checkpointIn w);
+        votes = one-more n (voteIn w) (voteIn (withVote w v)) v
+          (λ i h. λ j.
+            record {
+              voter = set-old (w .voters) n (v .voter) 0 i h j;
+              source = set-old (w .sources) n (place (v .source)) (place 0) i h j .0;
+              target = set-old (w .targets) n (place (v .target)) (place 0) i h j .0
+            })
+          (λ j.
+            record {
+              voter = set-new (w .voters) n (v .voter) 0 (omega (arith, sized .voters)) j;
+              source = set-new (w .sources) n (place (v .source)) (place 0) (omega (arith, sized .sources)) j .0;
+              target = set-new (w .targets) n (place (v .target)) (place 0) (omega (arith, sized .targets)) j .0
+            })
+          k
+      }
