@@ -5,7 +5,7 @@ use mathlib.Core.Path.{_≡_, refl}
 use mathlib.Core.List.{List, [], _∷_, _++_, flatMap}
 use mathlib.Core.Bool.{Bool, true, false}
 use lib.ListN.{length, drop, replicate}
-use Rattle.model.specs.Answer.{Answer, refused, answer}
+use Rattle.model.specs.Answer.{Answer, refused, answer, row}
 use Rattle.model.specs.Bytes.{beOf, beBytes, field, ascii}
 use Rattle.model.specs.Checker.{check, checkFrom, entries, ownVote?}
 use Rattle.model.specs.Decide.{decide, decideRecord, decideMember, decideCheckpoint, decideVote, decidePlaces, heightsAgree, bondOutOfRange, membersFixed, idHeld, nameHeld}
@@ -156,7 +156,7 @@ pub record WrongVersions : Type 0 where
 
 pub cases : MarkedCases × WrongVersions
 unfolding
-    any anyBelow firstIndex sameBytes beOf beBytes field ascii start append apply memberAt checkpointAt voteAt memberIndex placeOf voteHeld
+    row any anyBelow firstIndex sameBytes beOf beBytes field ascii start append apply memberAt checkpointAt voteAt memberIndex placeOf voteHeld
     child? reached? ancestor? conflict? header recordSize decode decodeWhole decide decideRecord decideMember decideCheckpoint decideVote decidePlaces heightsAgree bondOutOfRange
     membersFixed idHeld nameHeld decideEvent after outcomes readings count sum supports quorum support link? justifiedMarks justified? final? status conflicting?
     doubleVote? surroundVote? breaks? conductFrom conduct broken? violator? insertById byId digits decimal newline statusText checkpointLine checkpointLines

@@ -78,6 +78,7 @@ pub checkpoint-taken : (m : Model) (name parent : List ℕ) {p h : ℕ}
     → placeOf (m .checkpoints) parent ≡ p
     → heightOf (m .checkpoints) p ≡ h
     → answer (addCheckpoint (record { name = name; parent = p; height = h + 1 })) ≡ decideCheckpoint m name parent
+unfolding row
 checkpoint-taken m name parent e20 e21 e22 ep eh =
     sym (checkpoint-rows m name parent e20 e21 e22
     ∙ λ i. answer (addCheckpoint (record { name = name; parent = ep i; height = (ap (heightOf (m .checkpoints)) ep ∙ eh) i + 1 })))

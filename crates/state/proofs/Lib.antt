@@ -1,3 +1,4 @@
 pub mod Decided
 pub mod Held
 pub mod Store
+pub mod Kept

@@ -7,6 +7,7 @@ use lib.Dec.{leb}
 use lib.ListN.{drop}
 use Rattle.model.specs.Bytes.{part}
 use Rattle.model.specs.Limits.{checkpointLimit}
+use Rattle.model.specs.Answer.{row}
 use Rattle.state.proofs.Decided.{checkpoint-rows, checkpoint-taken, held-name, found-name}
 use Rattle.state.proofs.decide_checkpoint.Statement.{statement}
 use Rattle.state.proofs.decide_checkpoint.Tie as tie
@@ -18,6 +19,7 @@ find-name-requires : tie.Need-find-name-requires
 find-name-requires c κs = search needs
 
 returns : tie.Need-returns
+unfolding row
 returns c =
     λ m names heights.
     let a = c .before .before .before .before .args in
@@ -30,6 +32,7 @@ find-name-requires-2 : tie.Need-find-name-requires-2
 find-name-requires-2 c κs = search needs
 
 returns-2 : tie.Need-returns-2
+unfolding row
 returns-2 c =
     λ m names heights.
     let a = c .before .before .before .before .before .before .args in
@@ -40,6 +43,7 @@ returns-2 c =
     refl)
 
 returns-3 : tie.Need-returns-3
+unfolding row
 returns-3 c =
     λ m names heights.
     let a = c .before .before .before .before .before .before .before .args in
@@ -65,6 +69,7 @@ add-t20 c =
     omega (arith, c .before .before .before .before .before .before .before .before .before .pre .1 (b .before .find-name2 .result) (b .if2 .left))
 
 returns-4 : tie.Need-returns-4
+unfolding row
 returns-4 c =
     λ m names heights.
     let a = c .before .before .before .before .before .before .before .before .before .args in

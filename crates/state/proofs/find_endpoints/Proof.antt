@@ -5,6 +5,7 @@ use borrow.Author.Tests.{lt-ltb, le-ltb}
 use lib.ListN.{drop}
 use Rattle.model.specs.Bytes.{part}
 use Rattle.model.specs.Decide.{idHeld}
+use Rattle.model.specs.Answer.{row}
 use Rattle.state.proofs.Decided.{vote-rows, field-at, held-id, held-name, found-name}
 use Rattle.state.proofs.find_endpoints.Statement.{statement}
 use Rattle.state.proofs.find_endpoints.Tie as tie
@@ -19,6 +20,7 @@ find-id-requires : tie.Need-find-id-requires
 find-id-requires c κs = search needs
 
 returns : tie.Need-returns
+unfolding row
 returns c =
     λ m h k members names.
     let a = c .before .before .before .before .before .before .args in
@@ -38,6 +40,7 @@ find-name-requires : tie.Need-find-name-requires
 find-name-requires c κs = search needs
 
 returns-2 : tie.Need-returns-2
+unfolding row
 returns-2 c =
     λ m h k members names.
     let a = c .before .before .before .before .before .before .before .before .args in
@@ -57,6 +60,7 @@ find-name-requires-2 : tie.Need-find-name-requires-2
 find-name-requires-2 c κs = search needs
 
 returns-3 : tie.Need-returns-3
+unfolding row
 returns-3 c =
     λ m h k members names.
     let a = c .before .before .before .before .before .before .before .before .before .before .args in
@@ -76,6 +80,7 @@ cast-t17 : tie.Need-cast-t17
 cast-t17 c = search needs
 
 returns-4 : tie.Need-returns-4
+unfolding row
 returns-4 c =
     λ m h k members names.
     let a = c .before .before .before .before .before .before .before .before .before .before .args in
