@@ -19,13 +19,8 @@ use Rattle.model.proofs.Answer.{row-elim}
 use Rattle.model.proofs.Bytes.{field-below}
 use Rattle.model.proofs.Lists.{length-tabulate, lt-or-ge}
 use Rattle.state.specs.declared.Witness.{Witness}
-use Rattle.state.specs.State.{memberIn, checkpointIn, voteIn, modelOf, withMember, withCheckpoint, withVote, store}
-use Rattle.state.proofs.Store.{Sized, store-member, store-checkpoint, store-vote}
-
--- what the types of the fields say
-pub record Typed (w : Witness) : Type 0 where
-  pub sized : Sized w
-  pub ids : (i : ℕ) → getD (w .ids) i 0 < 2 ^ 16
+use Rattle.state.specs.State.{Typed, memberIn, checkpointIn, voteIn, modelOf, withMember, withCheckpoint, withVote, store}
+use Rattle.state.proofs.Store.{store-member, store-checkpoint, store-vote}
 
 pub record Kept (w : Witness) (a : Answer Change) : Type 0 where
   pub model : modelOf (store w a) ≡ apply (modelOf w) a
@@ -90,10 +85,10 @@ module _ (w : Witness) (typed : Typed w) where
             heights = typed .sized .heights;
             voters = typed .sized .voters;
             sources = typed .sized .sources;
-            targets = typed .sized .targets
+            targets = typed .sized .targets;
           };
-          ids = set-below (w .ids) (w .«member_count») (x .id) (2 ^ 16) narrow (typed .ids)
-        }
+          ids = set-below (w .ids) (w .«member_count») (x .id) (2 ^ 16) narrow (typed .ids);
+        };
       }
 
   checkpoint-kept : (c : Checkpoint) → length (c .name) ≡ 32 → w .«checkpoint_count» < 512 → Kept w (answer (addCheckpoint c))
@@ -110,10 +105,10 @@ module _ (w : Witness) (typed : Typed w) where
             heights = length-set (w .heights) _ _ ∙ typed .sized .heights;
             voters = typed .sized .voters;
             sources = typed .sized .sources;
-            targets = typed .sized .targets
+            targets = typed .sized .targets;
           };
-          ids = typed .ids
-        }
+          ids = typed .ids;
+        };
       }
 
   vote-kept : (v : Vote) → w .«vote_count» < 4096 → Kept w (answer (addVote v))
@@ -130,10 +125,10 @@ module _ (w : Witness) (typed : Typed w) where
             heights = typed .sized .heights;
             voters = length-set (w .voters) _ _ ∙ typed .sized .voters;
             sources = length-set (w .sources) _ _ ∙ typed .sized .sources;
-            targets = length-set (w .targets) _ _ ∙ typed .sized .targets
+            targets = length-set (w .targets) _ _ ∙ typed .sized .targets;
           };
-          ids = typed .ids
-        }
+          ids = typed .ids;
+        };
       }
 
   -- the rows: a refusal changes nothing, and what is added fits

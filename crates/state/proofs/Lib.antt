@@ -2,3 +2,4 @@ pub mod Decided
 pub mod Held
 pub mod Store
 pub mod Kept
+pub mod Readings

@@ -3,8 +3,8 @@ use Prim.Native.Nat.{ℕ, zero, suc, _+_, _*_, _<_, _≤_}
 use native.Mathlib.Omega.{arith}
 use native.Mathlib.Numerals.{add-one}
 use mathlib.Core.Path.{_≡_, refl, sym, ap, ap₂, _∙_, subst}
-use mathlib.Core.List.{List, [], _∷_, _++_, append-assoc}
-use lib.ListN.{length, getD, set, take, drop, length-drop, take-append-drop}
+use mathlib.Core.List.{List, [], _∷_, _++_, map, append-assoc}
+use lib.ListN.{length, getD, set, take, drop, length-map, length-drop, take-append-drop}
 use lib.Seq.{paste, getD-set-same, getD-set-other, take-at, drop-at, take-all, length-take-le, take-append-le, drop-append-le}
 use Rattle.model.specs.Answer.{Answer, refused, answer}
 use Rattle.model.specs.Bytes.{part}
@@ -12,18 +12,11 @@ use Rattle.model.specs.Lists.{tabulate}
 use Rattle.model.specs.Model.{Model, Member, Checkpoint, Vote, Change, nothing, addMember, addCheckpoint, addVote, append, apply}
 use Rattle.model.proofs.Lists.{tabulate-same}
 use Rattle.state.specs.declared.Witness.{Witness}
-use Rattle.state.specs.State.{place, height, memberIn, checkpointIn, voteIn, modelOf, withMember, withCheckpoint, withVote, store}
+use Rattle.state.specs.State.{Sized, place, height, memberIn, checkpointIn, voteIn, modelOf, withMember, withCheckpoint, withVote, store}
 
--- the arrays' lengths, as their types say
-pub record Sized (w : Witness) : Type 0 where
-  pub ids : length (w .ids) ≡ 128
-  pub bonds : length (w .bonds) ≡ 128
-  pub names : length (w .names) ≡ 16384
-  pub parents : length (w .parents) ≡ 512
-  pub heights : length (w .heights) ≡ 512
-  pub voters : length (w .voters) ≡ 4096
-  pub sources : length (w .sources) ≡ 4096
-  pub targets : length (w .targets) ≡ 4096
+-- an array's length, from that of the list of its elements' values
+pub length-any : (X Y : Type 0) (f : X → Y) (l : List X) (n : ℕ) → length (map f l) ≡ n → length l ≡ n
+length-any X Y f l n e = sym (length-map l f) ∙ e
 
 -- one more entry of a table
 one-more : {A : Type 0} (n : ℕ) (f g : ℕ → A) (x : A) → ((i : ℕ) → i < n → g i ≡ f i) → g n ≡ x → tabulate (n + 1) g ≡ tabulate n f ++ x ∷ []
@@ -82,20 +75,20 @@ module _ (w : Witness) (sized : Sized w) where
       record {
         members = tabulate (w .«member_count») (memberIn w);
         checkpoints = one-more n (checkpointIn w) (checkpointIn (withCheckpoint w c)) c
-          (λ i h. λ j.
+            (λ i h. λ j.
             record {
               name = paste-old (w .names) n (c .name) fits long i h j;
               parent = set-old (w .parents) n (place (c .parent)) (place 0) i h j .0;
-              height = set-old (w .heights) n (height (c .height)) (height 0) i h j .0
+              height = set-old (w .heights) n (height (c .height)) (height 0) i h j .0;
             })
-          (λ j.
+            (λ j.
             record {
               name = paste-new (w .names) n (c .name) fits long j;
               parent = set-new (w .parents) n (place (c .parent)) (place 0) (omega (arith, sized .parents)) j .0;
-              height = set-new (w .heights) n (height (c .height)) (height 0) (omega (arith, sized .heights)) j .0
+              height = set-new (w .heights) n (height (c .height)) (height 0) (omega (arith, sized .heights)) j .0;
             })
-          k;
-        votes = tabulate (w .«vote_count») (voteIn w)
+            k;
+        votes = tabulate (w .«vote_count») (voteIn w);
       }
 
   pub store-vote : (v : Vote) → w .«vote_count» < 4096 → modelOf (withVote w v) ≡ append (modelOf w) (addVote v)
@@ -107,17 +100,17 @@ module _ (w : Witness) (sized : Sized w) where
         members = tabulate (w .«member_count») (memberIn w);
         checkpoints = tabulate (w .«checkpoint_count») (checkpointIn w);
         votes = one-more n (voteIn w) (voteIn (withVote w v)) v
-          (λ i h. λ j.
+            (λ i h. λ j.
             record {
               voter = set-old (w .voters) n (v .voter) 0 i h j;
               source = set-old (w .sources) n (place (v .source)) (place 0) i h j .0;
-              target = set-old (w .targets) n (place (v .target)) (place 0) i h j .0
+              target = set-old (w .targets) n (place (v .target)) (place 0) i h j .0;
             })
-          (λ j.
+            (λ j.
             record {
               voter = set-new (w .voters) n (v .voter) 0 (omega (arith, sized .voters)) j;
               source = set-new (w .sources) n (place (v .source)) (place 0) (omega (arith, sized .sources)) j .0;
-              target = set-new (w .targets) n (place (v .target)) (place 0) (omega (arith, sized .targets)) j .0
+              target = set-new (w .targets) n (place (v .target)) (place 0) (omega (arith, sized .targets)) j .0;
             })
-          k
+            k;
       }

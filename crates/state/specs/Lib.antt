@@ -1,3 +1,4 @@
 pub mod State
 pub mod Tables
 pub mod Decision
+pub mod Reading

@@ -1,5 +1,5 @@
 -- The model that a witness holds, and the witness with something more.
-use Prim.Native.Nat.{ℕ, _+_, _*_}
+use Prim.Native.Nat.{ℕ, _+_, _*_, _<_, _^_}
 use mathlib.Core.Path.{_≡_}
 use mathlib.Core.List.{List}
 use lib.ListN.{length, getD, set}
@@ -95,3 +95,19 @@ store w (answer nothing) = w
 store w (answer (addMember x)) = withMember w x
 store w (answer (addCheckpoint c)) = withCheckpoint w c
 store w (answer (addVote v)) = withVote w v
+
+-- what the types of the fields say: the arrays' lengths, and that an id is of 16 bits
+
+pub record Sized (w : Witness) : Type 0 where
+  pub ids : length (w .ids) ≡ 128
+  pub bonds : length (w .bonds) ≡ 128
+  pub names : length (w .names) ≡ 16384
+  pub parents : length (w .parents) ≡ 512
+  pub heights : length (w .heights) ≡ 512
+  pub voters : length (w .voters) ≡ 4096
+  pub sources : length (w .sources) ≡ 4096
+  pub targets : length (w .targets) ≡ 4096
+
+pub record Typed (w : Witness) : Type 0 where
+  pub sized : Sized w
+  pub ids : (i : ℕ) → getD (w .ids) i 0 < 2 ^ 16

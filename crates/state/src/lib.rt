@@ -3,15 +3,15 @@ use model::Height;
 use model::Place;
 use model::Refusal;
 ghost use mathlib.Core.Path.{_≡_};
-ghost use mathlib.Core.List.{List};
 ghost use Prim.Native.Nat.{ℕ, _+_, _*_, _≤_, _<_};
 ghost use lib.ListN.{length, drop, getD};
 ghost use Rattle.model.specs.Bytes.{field, part};
-ghost use Rattle.model.specs.Model.{Model};
+ghost use Rattle.model.specs.Model.{Model, addMember};
 ghost use Rattle.model.specs.Decide.{membersFixed, decideMember, decideCheckpoint, decideVote};
 ghost use Rattle.state.specs.Tables.{MembersHeld, NamesHeld, HeightsHeld};
-ghost use Rattle.state.specs.Decision.{decisionOf, voteBetween};
-ghost use Rattle.state.specs.State.{height};
+ghost use Rattle.state.specs.Decision.{verdictOf, descentOf, voteBetween};
+ghost use Rattle.state.specs.State.{Typed, height, modelOf};
+ghost use Rattle.state.specs.Reading.{IsReading};
 
 // What is held, in arrays: of each, the first so many entries as its count says; what stands past them means nothing.
 // A name is 32 bytes of `names`, at 32 times its place.
@@ -29,41 +29,44 @@ pub struct Witness {
     pub vote_count: usize,
 }
 
-// What is decided on a record: nothing was left, a refusal, or what is added. A checkpoint's name stays in the log.
-pub enum Decision {
-    Nothing,
+// What is decided on a member or a vote.
+pub enum Verdict {
     Refuse(Refusal),
-    Member(u16, u64),
-    Checkpoint(Place, Height),
-    Vote(u16, Place, Place),
+    Take,
+}
+
+// What is decided on a checkpoint: the place of its parent, and its own height.
+pub enum Descent {
+    Refuse(Refusal),
+    Under(Place, Height),
 }
 
 // Rows 10 to 13; `fixed` is row 10's condition.
-fn decide_member(ids: &[u16], count: usize, fixed: bool, id: u16, bond: u64) -> Decision
+fn decide_member(ids: &[u16], count: usize, fixed: bool, id: u16, bond: u64) -> Verdict
     requires { ⌜ count ≤ length (now ids) ⌝ }
     ensures { λ r. ⌜
-        ((m : Model) (s : List ℕ)
+        ((m : Model)
         → membersFixed m ≡ fixed
         → MembersHeld m (now (ids .entry)) count
-        → decisionOf s r ≡ decideMember m (record { id = id; bond = bond }))
+        → verdictOf (addMember (record { id = id; bond = bond })) r ≡ decideMember m (record { id = id; bond = bond }))
         ⌝ }
 {
     if fixed {
-        return Decision::Refuse(Refusal::MembersFixed);
+        return Verdict::Refuse(Refusal::MembersFixed);
     }
     if bond == 0 {
-        return Decision::Refuse(Refusal::BondOutOfRange);
+        return Verdict::Refuse(Refusal::BondOutOfRange);
     }
     if 1_000_000_000_000 < bond {
-        return Decision::Refuse(Refusal::BondOutOfRange);
+        return Verdict::Refuse(Refusal::BondOutOfRange);
     }
     if tables::find_id(ids, count, id) < count {
-        return Decision::Refuse(Refusal::IdHeld);
+        return Verdict::Refuse(Refusal::IdHeld);
     }
     if 128 <= count {
-        return Decision::Refuse(Refusal::MembersFull);
+        return Verdict::Refuse(Refusal::MembersFull);
     }
-    Decision::Member(id, bond)
+    Verdict::Take
 }
 
 // Rows 20 to 22, on the checkpoint record at `at`. No height is so large that a child's would not fit.
@@ -73,29 +76,29 @@ fn decide_checkpoint(
     count: usize,
     log: &[u8],
     at: usize,
-) -> Decision
+) -> Descent
     requires { ⌜ (32 * count ≤ length (now names)) × (count ≤ 512) × (at + 65 ≤ length (now log)) ⌝ }
     requires { ⌜ ((i : ℕ) → i < count → getD heights i (height 0) .0 < 4294967295) ⌝ }
     ensures { λ r. ⌜
         ((m : Model)
         → NamesHeld m (now (names .entry)) count
         → HeightsHeld m heights count
-        → decisionOf (drop at (now (log .entry))) r
+        → descentOf (part 1 32 (drop at (now (log .entry)))) r
         ≡ decideCheckpoint m (part 1 32 (drop at (now (log .entry)))) (part 33 32 (drop at (now (log .entry)))))
         ⌝ }
 {
     if tables::find_name(names, count, log, at + 1) < count {
-        return Decision::Refuse(Refusal::NameHeld);
+        return Descent::Refuse(Refusal::NameHeld);
     }
     let p = tables::find_name(names, count, log, at + 33);
     if count <= p {
-        return Decision::Refuse(Refusal::ParentNotHeld);
+        return Descent::Refuse(Refusal::ParentNotHeld);
     }
     if 512 <= count {
-        return Decision::Refuse(Refusal::CheckpointsFull);
+        return Descent::Refuse(Refusal::CheckpointsFull);
     }
     let above = heights[p];
-    Decision::Checkpoint(Place(p as u16), Height(above.0 + 1))
+    Descent::Under(Place(p as u16), Height(above.0 + 1))
 }
 
 // A vote's member and the places of its two names, or the row that refuses it.
@@ -140,4 +143,51 @@ fn find_endpoints<'a>(
         return Endpoints::Refuse(Refusal::TargetNotHeld);
     }
     Endpoints::Between(id, Place(s as u16), Place(t as u16))
+}
+
+// What reading a record comes to.
+pub enum Outcome {
+    Nothing,
+    Taken,
+    Refused(Refusal),
+}
+
+// The outcome, the offset to go on from, and the witness as it is then.
+pub struct Reading {
+    pub outcome: Outcome,
+    pub next: usize,
+    pub witness: Witness,
+}
+
+// The member record at `at`.
+fn read_member(mut w: Witness, log: &[u8], at: usize) -> Reading
+    requires { ⌜ Typed w × (w .«member_count» ≤ 128) × (at + 11 ≤ length (now log)) ⌝ }
+    ensures { λ r. ⌜
+        IsReading w
+        (decideMember (modelOf w) (record { id = field 1 2 (drop at (now (log .entry))); bond = field 3 8 (drop at (now (log .entry))) }))
+        (at + 11)
+        r
+        ⌝ }
+{
+    let count = w.member_count;
+    let fixed = (0 < w.vote_count) | (1 < w.checkpoint_count);
+    let id = wire::be16(log, at + 1);
+    let bond = wire::be64(log, at + 3);
+    match decide_member(&w.ids, count, fixed, id, bond) {
+        Verdict::Refuse(r) => Reading {
+            outcome: Outcome::Refused(r),
+            next: at + 11,
+            witness: w,
+        },
+        Verdict::Take => {
+            w.ids[count] = id;
+            w.bonds[count] = bond;
+            w.member_count = count + 1;
+            Reading {
+                outcome: Outcome::Taken,
+                next: at + 11,
+                witness: w,
+            }
+        }
+    }
 }

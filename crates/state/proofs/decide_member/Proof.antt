@@ -11,15 +11,15 @@ use Rattle.state.proofs.decide_member.Tie as tie
 
 returns : tie.Need-returns
 unfolding row
-returns c = λ m s fixed held. sym (member-rows m _ (fixed ∙ c .if1 .taken) refl refl refl)
+returns c = λ m fixed held. sym (member-rows m _ (fixed ∙ c .if1 .taken) refl refl refl)
 
 returns-2 : tie.Need-returns-2
 unfolding row
-returns-2 c = λ m s fixed held. sym (member-rows m _ (fixed ∙ c .before .if1 .left) (bond-zero _ (c .if2 .taken)) refl refl)
+returns-2 c = λ m fixed held. sym (member-rows m _ (fixed ∙ c .before .if1 .left) (bond-zero _ (c .if2 .taken)) refl refl)
 
 returns-3 : tie.Need-returns-3
 unfolding row
-returns-3 c = λ m s fixed held. sym (member-rows m _ (fixed ∙ c .before .before .if1 .left) (bond-above _ (c .if3 .taken)) refl refl)
+returns-3 c = λ m fixed held. sym (member-rows m _ (fixed ∙ c .before .before .if1 .left) (bond-above _ (c .if3 .taken)) refl refl)
 
 find-id-requires : tie.Need-find-id-requires
 find-id-requires c κs = search needs
@@ -27,7 +27,7 @@ find-id-requires c κs = search needs
 returns-4 : tie.Need-returns-4
 unfolding row
 returns-4 c =
-    λ m s fixed held.
+    λ m fixed held.
     let b = c .before .before in
     sym
     (member-rows m _ (fixed ∙ b .before .before .if1 .left) (bond-fits _ (b .before .if2 .left) (b .if3 .left))
@@ -36,7 +36,7 @@ returns-4 c =
 returns-5 : tie.Need-returns-5
 unfolding row
 returns-5 c =
-    λ m s fixed held.
+    λ m fixed held.
     let b = c .before .before .before in
     sym
     (member-rows m _ (fixed ∙ b .before .before .if1 .left) (bond-fits _ (b .before .if2 .left) (b .if3 .left))
@@ -45,7 +45,7 @@ returns-5 c =
 returns-6 : tie.Need-returns-6
 unfolding row
 returns-6 c =
-    λ m s fixed held.
+    λ m fixed held.
     let b = c .before .before .before in
     sym
     (member-rows m _ (fixed ∙ b .before .before .if1 .left) (bond-fits _ (b .before .if2 .left) (b .if3 .left))

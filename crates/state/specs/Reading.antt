@@ -1,0 +1,23 @@
+-- What a reading gives back: the outcome in document 01's numbers, the offset to go on from, and the witness.
+use Prim.Native.Nat.{ℕ}
+use mathlib.Core.Path.{_≡_}
+use Rattle.model.specs.Answer.{Answer, refused, answer}
+use Rattle.model.specs.Model.{Change}
+use Rattle.model.specs.Refusals.{refusalNumber}
+use Rattle.model.specs.Run.{Told, nothingLeft, taken, told}
+use Rattle.state.specs.State.{store}
+use Rattle.state.specs.declared.Witness.{Witness}
+use Rattle.state.specs.declared.Reading.{Reading}
+use Rattle.state.specs.declared.Outcome.{Outcome}
+use Rattle.state.specs.declared.Outcome.the-variants.{Nothing, Taken, Refused}
+
+abbrev pub outcomeOf : Outcome → Answer Told
+outcomeOf Nothing = answer nothingLeft
+outcomeOf Taken = answer taken
+outcomeOf (Refused r) = refused (refusalNumber r)
+
+-- `a` is what the model decides
+pub record IsReading (w : Witness) (a : Answer Change) (after : ℕ) (r : Reading) : Type 0 where
+  pub outcome : outcomeOf (r .outcome) ≡ told a
+  pub next : r .next ≡ after
+  pub witness : r .witness ≡ store w a
