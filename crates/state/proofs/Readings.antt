@@ -1,26 +1,29 @@
 -- What a reader gives back, once it is known what was decided.
-use Prim.Native.Nat.{ℕ, _+_, _<_, _≤_}
+use Prim.Native.Nat.{ℕ, _+_, _*_, _<_}
 use mathlib.Core.Path.{_≡_, refl, sym, ap, ap₂, _∙_}
 use mathlib.Core.Bool.{Bool, _||_}
-use mathlib.Core.List.{List}
+use mathlib.Core.List.{List, _++_}
 use native.Mathlib.Omega.{arith}
 use borrow.Author.Tests.{leb-false}
-use lib.ListN.{length, drop}
+use lib.ListN.{length, take, drop, set}
+use lib.Seq.{paste, take-take}
 use lib.Dec.{ltb}
 use Rattle.model.specs.Answer.{Answer, refused, answer}
-use Rattle.model.specs.Decide.{membersFixed, decideMember}
-use Rattle.model.specs.Bytes.{field}
-use Rattle.model.specs.Limits.{memberLimit}
-use Rattle.model.specs.Model.{Change, Member, addMember}
+use Rattle.model.specs.Decide.{membersFixed, decideMember, decideCheckpoint}
+use Rattle.model.specs.Bytes.{field, part}
+use Rattle.model.specs.Limits.{memberLimit, checkpointLimit}
+use Rattle.model.specs.Model.{Change, Member, addMember, addCheckpoint}
 use Rattle.model.specs.Refusals.{refusalNumber}
 use Rattle.model.specs.Run.{told}
+use Rattle.model.specs.declared.Height.{Height}
+use Rattle.model.specs.declared.Place.{Place}
 use Rattle.model.specs.declared.Refusal.{Refusal}
-use Rattle.state.specs.State.{modelOf, withMember, store}
+use Rattle.state.specs.State.{modelOf, withMember, withCheckpoint, store}
 use Rattle.state.specs.Reading.{IsReading}
 use Rattle.state.specs.declared.Witness.{Witness}
 use Rattle.state.specs.declared.Outcome.the-variants.{Nothing, Taken, Refused}
 use Rattle.model.proofs.Answer.{row-passes}
-use Rattle.state.proofs.Decided.{field-at}
+use Rattle.state.proofs.Decided.{field-at, part-at}
 use Rattle.state.proofs.Kept.{count-members, count-checkpoints, count-votes}
 
 pub members-fixed : (w : Witness) → membersFixed (modelOf w) ≡ (ltb 0 (w .«vote_count») || ltb 1 (w .«checkpoint_count»))
@@ -50,3 +53,45 @@ member-room w x e =
 pub member-read : (at : ℕ) (log : List ℕ) {id bond : ℕ} → id ≡ field (at + 1) 2 log → bond ≡ field (at + 3) 8 log
     → _≡_ {A = Member} (record { id = id; bond = bond }) (record { id = field 1 2 (drop at log); bond = field 3 8 (drop at log) })
 member-read at log p q = λ i. record { id = (p ∙ sym (field-at at 1 2 log)) i; bond = (q ∙ sym (field-at at 3 8 log)) i }
+
+-- a checkpoint that is taken leaves room for it
+pub checkpoint-room : (w : Witness) (name parent : List ℕ) {c : Change} → answer c ≡ decideCheckpoint (modelOf w) name parent → w .«checkpoint_count» < 512
+unfolding decideCheckpoint
+checkpoint-room w name parent e =
+    let r20 = row-passes 20 _ _ _ (sym e) in
+    let r21 = row-passes 21 _ _ _ (r20 .rest) in
+    let r22 = row-passes 22 _ _ _ (r21 .rest) in
+    omega (arith, leb-false checkpointLimit (length (modelOf w .checkpoints)) (r22 .clear), count-checkpoints w)
+
+-- the witness as the code leaves it, its table of names being `names`
+abbrev withName : Witness → List ℕ → Place → Height → Witness
+withName w names p h =
+    record {
+      ids = w .ids;
+      bonds = w .bonds;
+      names = names;
+      parents = set (w .parents) (w .«checkpoint_count») p;
+      heights = set (w .heights) (w .«checkpoint_count») h;
+      voters = w .voters;
+      sources = w .sources;
+      targets = w .targets;
+      «member_count» = w .«member_count»;
+      «checkpoint_count» = w .«checkpoint_count» + 1;
+      «vote_count» = w .«vote_count»;
+    }
+
+pub checkpoint-reading : (w : Witness) {a : Answer Change} (n at : ℕ) (log : List ℕ) (p : Place) (h : Height) {names : List ℕ}
+    → names ≡ paste (w .names) (w .«checkpoint_count» * 32) (drop (at + 1) log) 32
+    → answer (addCheckpoint (record { name = part 1 32 (drop at log); parent = p .0; height = h .0 })) ≡ a
+    → IsReading w a n (record { outcome = Taken; next = n; witness = withName w names p h })
+unfolding told store withCheckpoint
+checkpoint-reading w n at log p h {names} copied e =
+    record { outcome = ap told e; next = refl; witness = ap (λ (t : List ℕ). withName w t p h) (copied ∙ named) ∙ ap (store w) e }
+  where
+    k : ℕ
+    k = w .«checkpoint_count» * 32
+
+    named : paste (w .names) k (drop (at + 1) log) 32 ≡ paste (w .names) k (part 1 32 (drop at log)) 32
+    named =
+        ap (λ (t : List ℕ). take k (w .names) ++ t ++ drop (k + 32) (w .names))
+        (sym (take-take 32 32 (drop (at + 1) log) (omega arith)) ∙ ap (take 32) (sym (part-at at 1 32 log)))

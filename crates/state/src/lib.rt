@@ -5,6 +5,7 @@ use model::Refusal;
 ghost use mathlib.Core.Path.{_≡_};
 ghost use Prim.Native.Nat.{ℕ, _+_, _*_, _≤_, _<_};
 ghost use lib.ListN.{length, drop, getD};
+ghost use lib.Seq.{paste};
 ghost use Rattle.model.specs.Bytes.{field, part};
 ghost use Rattle.model.specs.Model.{Model, addMember};
 ghost use Rattle.model.specs.Decide.{membersFixed, decideMember, decideCheckpoint, decideVote};
@@ -186,6 +187,51 @@ fn read_member(mut w: Witness, log: &[u8], at: usize) -> Reading
             Reading {
                 outcome: Outcome::Taken,
                 next: at + 11,
+                witness: w,
+            }
+        }
+    }
+}
+
+// The 32 bytes of the log at `from`, into the table at `at`.
+fn copy_name(names: &mut [u8; 16384], at: usize, log: &[u8], from: usize)
+    requires { ⌜ (length (now names) ≡ 16384) × (at + 32 ≤ 16384) × (from + 32 ≤ length (now log)) ⌝ }
+    ensures { λ _. ⌜ now (names .exit) ≡ paste (now (names .entry)) at (drop from (now (log .entry))) 32 ⌝ }
+{
+    let mut i: usize = 0;
+    while i < 32 {
+        names[at + i] = log[from + i];
+        i += 1;
+    }
+}
+
+// The checkpoint record at `at`.
+fn read_checkpoint(mut w: Witness, log: &[u8], at: usize) -> Reading
+    requires { ⌜ Typed w × (w .«checkpoint_count» ≤ 512) × (at + 65 ≤ length (now log)) ⌝ }
+    requires { ⌜ ((i : ℕ) → i < w .«checkpoint_count» → getD (w .heights) i (height 0) .0 < 4294967295) ⌝ }
+    ensures { λ r. ⌜
+        IsReading w
+        (decideCheckpoint (modelOf w) (part 1 32 (drop at (now (log .entry)))) (part 33 32 (drop at (now (log .entry)))))
+        (at + 65)
+        r
+        ⌝ }
+{
+    let count = w.checkpoint_count;
+    let heights = w.heights;
+    match decide_checkpoint(&w.names, heights, count, log, at) {
+        Descent::Refuse(r) => Reading {
+            outcome: Outcome::Refused(r),
+            next: at + 65,
+            witness: w,
+        },
+        Descent::Under(p, h) => {
+            copy_name(&mut w.names, count * 32, log, at + 1);
+            w.parents[count] = p;
+            w.heights[count] = h;
+            w.checkpoint_count = count + 1;
+            Reading {
+                outcome: Outcome::Taken,
+                next: at + 65,
                 witness: w,
             }
         }
