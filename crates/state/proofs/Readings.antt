@@ -5,7 +5,7 @@ use mathlib.Core.Bool.{Bool, _||_}
 use mathlib.Core.List.{List, _++_}
 use native.Mathlib.Omega.{arith}
 use borrow.Author.Tests.{leb-false}
-use lib.ListN.{length, take, drop, set}
+use lib.ListN.{length, take, drop, set, replicate}
 use lib.Seq.{paste, take-take}
 use lib.Dec.{ltb}
 use Rattle.model.specs.Answer.{Answer, refused, answer}
@@ -18,7 +18,7 @@ use Rattle.model.specs.Run.{told}
 use Rattle.model.specs.declared.Height.{Height}
 use Rattle.model.specs.declared.Place.{Place}
 use Rattle.model.specs.declared.Refusal.{Refusal}
-use Rattle.state.specs.State.{modelOf, withMember, withCheckpoint, store}
+use Rattle.state.specs.State.{place, height, emptyWitness, modelOf, withMember, withCheckpoint, store}
 use Rattle.state.specs.Reading.{IsReading}
 use Rattle.state.specs.declared.Witness.{Witness}
 use Rattle.state.specs.declared.Outcome.the-variants.{Nothing, Taken, Refused}
@@ -54,6 +54,12 @@ pub member-read : (at : ℕ) (log : List ℕ) {id bond : ℕ} → id ≡ field (
     → _≡_ {A = Member} (record { id = id; bond = bond }) (record { id = field 1 2 (drop at log); bond = field 3 8 (drop at log) })
 member-read at log p q = λ i. record { id = (p ∙ sym (field-at at 1 2 log)) i; bond = (q ∙ sym (field-at at 3 8 log)) i }
 
+-- 32 bytes pasted from the log, or from the name cut out of it
+paste-name : (d : List ℕ) (k at i : ℕ) (log : List ℕ) → paste d k (drop (at + i) log) 32 ≡ paste d k (part i 32 (drop at log)) 32
+paste-name d k at i log =
+    ap (λ (t : List ℕ). take k d ++ t ++ drop (k + 32) d)
+    (sym (take-take 32 32 (drop (at + i) log) (omega arith)) ∙ ap (take 32) (sym (part-at at i 32 log)))
+
 -- a checkpoint that is taken leaves room for it
 pub checkpoint-room : (w : Witness) (name parent : List ℕ) {c : Change} → answer c ≡ decideCheckpoint (modelOf w) name parent → w .«checkpoint_count» < 512
 unfolding decideCheckpoint
@@ -86,12 +92,23 @@ pub checkpoint-reading : (w : Witness) {a : Answer Change} (n at : ℕ) (log : L
     → IsReading w a n (record { outcome = Taken; next = n; witness = withName w names p h })
 unfolding told store withCheckpoint
 checkpoint-reading w n at log p h {names} copied e =
-    record { outcome = ap told e; next = refl; witness = ap (λ (t : List ℕ). withName w t p h) (copied ∙ named) ∙ ap (store w) e }
-  where
-    k : ℕ
-    k = w .«checkpoint_count» * 32
+    record { outcome = ap told e; next = refl; witness = ap (λ (t : List ℕ). withName w t p h) (copied ∙ paste-name (w .names) (w .«checkpoint_count» * 32) at 1 log) ∙ ap (store w) e }
 
-    named : paste (w .names) k (drop (at + 1) log) 32 ≡ paste (w .names) k (part 1 32 (drop at log)) 32
-    named =
-        ap (λ (t : List ℕ). take k (w .names) ++ t ++ drop (k + 32) (w .names))
-        (sym (take-take 32 32 (drop (at + 1) log) (omega arith)) ∙ ap (take 32) (sym (part-at at 1 32 log)))
+-- the empty witness, as the code makes it
+pub empty-is : (log : List ℕ) {names : List ℕ} → names ≡ paste (replicate 16384 0) 0 (drop 5 log) 32
+    → record {
+      ids = replicate 128 0;
+      bonds = replicate 128 0;
+      names = names;
+      parents = replicate 512 (place 0);
+      heights = replicate 512 (height 0);
+      voters = replicate 4096 0;
+      sources = replicate 4096 (place 0);
+      targets = replicate 4096 (place 0);
+      «member_count» = 0;
+      «checkpoint_count» = 1;
+      «vote_count» = 0;
+    }
+    ≡ emptyWitness (part 5 32 log)
+unfolding emptyWitness
+empty-is log e = ap (λ (t : List ℕ). record { ids = replicate 128 0; bonds = replicate 128 0; names = t; parents = replicate 512 (place 0); heights = replicate 512 (height 0); voters = replicate 4096 0; sources = replicate 4096 (place 0); targets = replicate 4096 (place 0); «member_count» = 0; «checkpoint_count» = 1; «vote_count» = 0 }) (e ∙ paste-name (replicate 16384 0) 0 0 5 log)

@@ -2,7 +2,7 @@
 use Prim.Native.Nat.{ℕ, _+_, _*_, _<_, _^_}
 use mathlib.Core.Path.{_≡_}
 use mathlib.Core.List.{List}
-use lib.ListN.{length, getD, set}
+use lib.ListN.{length, getD, set, replicate}
 use lib.Seq.{paste}
 use Rattle.model.specs.Answer.{Answer, refused, answer}
 use Rattle.model.specs.Bytes.{part}
@@ -111,3 +111,20 @@ pub record Sized (w : Witness) : Type 0 where
 pub record Typed (w : Witness) : Type 0 where
   pub sized : Sized w
   pub ids : (i : ℕ) → getD (w .ids) i 0 < 2 ^ 16
+
+-- "A right header begins an empty witness with that root."
+unfoldable pub emptyWitness : List ℕ → Witness
+emptyWitness name =
+    record {
+      ids = replicate 128 0;
+      bonds = replicate 128 0;
+      names = paste (replicate 16384 0) 0 name 32;
+      parents = replicate 512 (place 0);
+      heights = replicate 512 (height 0);
+      voters = replicate 4096 0;
+      sources = replicate 4096 (place 0);
+      targets = replicate 4096 (place 0);
+      «member_count» = 0;
+      «checkpoint_count» = 1;
+      «vote_count» = 0;
+    }

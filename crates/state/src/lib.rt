@@ -11,7 +11,7 @@ ghost use Rattle.model.specs.Model.{Model, addMember};
 ghost use Rattle.model.specs.Decide.{membersFixed, decideMember, decideCheckpoint, decideVote};
 ghost use Rattle.state.specs.Tables.{MembersHeld, NamesHeld, HeightsHeld};
 ghost use Rattle.state.specs.Decision.{verdictOf, descentOf, voteBetween};
-ghost use Rattle.state.specs.State.{Typed, height, modelOf};
+ghost use Rattle.state.specs.State.{Typed, emptyWitness, height, modelOf};
 ghost use Rattle.state.specs.Reading.{IsReading};
 
 // What is held, in arrays: of each, the first so many entries as its count says; what stands past them means nothing.
@@ -235,5 +235,27 @@ fn read_checkpoint(mut w: Witness, log: &[u8], at: usize) -> Reading
                 witness: w,
             }
         }
+    }
+}
+
+// The witness with the root alone, whose name is the 32 bytes of the log at 5.
+fn empty(log: &[u8]) -> Witness
+    requires { ⌜ 37 ≤ length (now log) ⌝ }
+    ensures { λ r. ⌜ r ≡ emptyWitness (part 5 32 (now (log .entry))) ⌝ }
+{
+    let mut names = [0u8; 16384];
+    copy_name(&mut names, 0, log, 5);
+    Witness {
+        ids: [0u16; 128],
+        bonds: [0u64; 128],
+        names,
+        parents: [Place(0); 512],
+        heights: [Height(0); 512],
+        voters: [0u16; 4096],
+        sources: [Place(0); 4096],
+        targets: [Place(0); 4096],
+        member_count: 0,
+        checkpoint_count: 1,
+        vote_count: 0,
     }
 }
