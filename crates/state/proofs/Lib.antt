@@ -3,3 +3,4 @@ pub mod Held
 pub mod Store
 pub mod Kept
 pub mod Readings
+pub mod Header

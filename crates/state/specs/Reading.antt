@@ -1,13 +1,17 @@
 -- What a reading gives back: the outcome in document 01's numbers, the offset to go on from, and the witness.
 use Prim.Native.Nat.{ℕ}
 use mathlib.Core.Path.{_≡_}
+use mathlib.Core.List.{List}
 use Rattle.model.specs.Answer.{Answer, refused, answer}
 use Rattle.model.specs.Model.{Change}
 use Rattle.model.specs.Refusals.{refusalNumber}
 use Rattle.model.specs.Run.{Told, nothingLeft, taken, told}
-use Rattle.state.specs.State.{store}
+use Rattle.state.specs.State.{store, emptyWitness}
 use Rattle.state.specs.declared.Witness.{Witness}
 use Rattle.state.specs.declared.Reading.{Reading}
+use Rattle.state.specs.declared.Beginning.{Beginning}
+use Rattle.state.specs.declared.Start.{Start}
+use Rattle.state.specs.declared.Start.the-variants.{Begun, Refused as RefusedHeader}
 use Rattle.state.specs.declared.Outcome.{Outcome}
 use Rattle.state.specs.declared.Outcome.the-variants.{Nothing, Taken, Refused}
 
@@ -21,3 +25,18 @@ pub record IsReading (w : Witness) (a : Answer Change) (after : ℕ) (r : Readin
   pub outcome : outcomeOf (r .outcome) ≡ told a
   pub next : r .next ≡ after
   pub witness : r .witness ≡ store w a
+
+-- a header that is refused leaves the witness handed in; a right one begins an empty witness with its root's name
+
+abbrev pub startOf : List ℕ → Start → Answer (List ℕ)
+startOf name Begun = answer name
+startOf name (RefusedHeader r) = refused (refusalNumber r)
+
+unfoldable pub beginWith : Witness → Answer (List ℕ) → Witness
+beginWith w (refused n) = w
+beginWith w (answer name) = emptyWitness name
+
+-- `h` is what the header says
+pub record IsBeginning (w : Witness) (name : List ℕ) (h : Answer (List ℕ)) (r : Beginning) : Type 0 where
+  pub outcome : startOf name (r .outcome) ≡ h
+  pub witness : r .witness ≡ beginWith w h

@@ -4,15 +4,17 @@ use model::Place;
 use model::Refusal;
 ghost use mathlib.Core.Path.{_≡_};
 ghost use Prim.Native.Nat.{ℕ, _+_, _*_, _≤_, _<_};
-ghost use lib.ListN.{length, drop, getD};
+ghost use lib.ListN.{length, take, drop, getD};
 ghost use lib.Seq.{paste};
-ghost use Rattle.model.specs.Bytes.{field, part};
+ghost use Rattle.model.specs.Bytes.{field, part, ascii};
+ghost use Rattle.model.specs.Lists.{sameBytes};
+ghost use Rattle.model.specs.Log.{header};
 ghost use Rattle.model.specs.Model.{Model, addMember};
 ghost use Rattle.model.specs.Decide.{membersFixed, decideMember, decideCheckpoint, decideVote};
 ghost use Rattle.state.specs.Tables.{MembersHeld, NamesHeld, HeightsHeld};
 ghost use Rattle.state.specs.Decision.{verdictOf, descentOf, voteBetween};
 ghost use Rattle.state.specs.State.{Typed, emptyWitness, height, modelOf};
-ghost use Rattle.state.specs.Reading.{IsReading};
+ghost use Rattle.state.specs.Reading.{IsReading, IsBeginning};
 
 // What is held, in arrays: of each, the first so many entries as its count says; what stands past them means nothing.
 // A name is 32 bytes of `names`, at 32 times its place.
@@ -257,5 +259,53 @@ fn empty(log: &[u8]) -> Witness
         member_count: 0,
         checkpoint_count: 1,
         vote_count: 0,
+    }
+}
+
+// What reading a header comes to.
+pub enum Start {
+    Begun,
+    Refused(Refusal),
+}
+
+// The outcome, and the witness: the empty one, or the one handed in.
+pub struct Beginning {
+    pub outcome: Start,
+    pub witness: Witness,
+}
+
+// The mark `FFW`.
+fn has_mark(log: &[u8]) -> bool
+    requires { ⌜ 3 ≤ length (now log) ⌝ }
+    ensures { λ r. ⌜ r ≡ sameBytes (take 3 (now (log .entry))) (ascii "FFW") ⌝ }
+{
+    (log[0] == 70) & (log[1] == 70) & (log[2] == 87)
+}
+
+// Rows 1 to 3; any witness may be handed in.
+pub fn begin(w: Witness, log: &[u8]) -> Beginning
+    ensures { λ r. ⌜ IsBeginning w (part 5 32 (now (log .entry))) (header (now (log .entry))) r ⌝ }
+{
+    if log.len() < 37 {
+        return Beginning {
+            outcome: Start::Refused(Refusal::LogTooShort),
+            witness: w,
+        };
+    }
+    if !has_mark(log) {
+        return Beginning {
+            outcome: Start::Refused(Refusal::LogMark),
+            witness: w,
+        };
+    }
+    if wire::be16(log, 3) != 1 {
+        return Beginning {
+            outcome: Start::Refused(Refusal::LogVersion),
+            witness: w,
+        };
+    }
+    Beginning {
+        outcome: Start::Begun,
+        witness: empty(log),
     }
 }
