@@ -2,20 +2,23 @@
 use Prim.Native.Nat.{ℕ, _+_, _<_, _≤_}
 use mathlib.Core.Path.{_≡_, refl, sym, ap, ap₂, _∙_}
 use mathlib.Core.List.{List}
-use mathlib.Core.Bool.{Bool, true, false, _||_, not}
+use mathlib.Core.Bool.{Bool, true, false, _&&_, _||_, not}
 use borrow.Author.Tests.{eq-eqb, ne-eqb, lt-ltb, le-ltb}
-use lib.ListN.{length, drop, take}
+use lib.ListN.{length, drop, take, getD}
 use lib.Seq.{drop-drop}
 use lib.Dec.{eqb, ltb, leb}
 use Rattle.model.specs.Answer.{Answer, answer, row}
 use Rattle.model.specs.Bytes.{field, part}
-use Rattle.model.specs.Decide.{membersFixed, bondOutOfRange, idHeld, nameHeld, decideMember, decideCheckpoint, decideVote, decidePlaces}
+use Rattle.model.specs.Decide.{membersFixed, bondOutOfRange, idHeld, nameHeld, decideMember, decideCheckpoint, decideVote, heightsAgree, decidePlaces}
 use Rattle.model.specs.Lists.{firstIndex, sameBytes}
-use Rattle.model.specs.Limits.{bondLimit, memberLimit, checkpointLimit}
-use Rattle.model.specs.Model.{Model, Member, Vote, addMember, addCheckpoint, heightOf, placeOf}
+use Rattle.model.specs.Limits.{bondLimit, memberLimit, checkpointLimit, voteLimit}
+use Rattle.model.specs.Model.{Model, Member, Vote, addMember, addCheckpoint, addVote, heightOf, placeOf, voteHeld}
+use Rattle.model.specs.Tree.{ancestor?}
+use Rattle.model.specs.declared.Height.{Height}
 use Rattle.model.proofs.Lists.{or-left, or-right}
 use Rattle.tables.specs.Rows.{rows}
-use Rattle.state.specs.Tables.{MembersHeld, NamesHeld}
+use Rattle.state.specs.State.{height}
+use Rattle.state.specs.Tables.{MembersHeld, NamesHeld, HeightsHeld}
 
 -- a part, and a field, of the bytes from an offset on
 pub part-at : (at i k : ℕ) (s : List ℕ) → part i k (drop at s) ≡ part (at + i) k s
@@ -97,3 +100,22 @@ vote-rows m id source target sourceHeight targetHeight {b30} {b31} {b32} e e30 e
     rw (e30, e31, e32)
     (ap (λ (v : Vote). row 30 (not b30) (row 31 (not b31) (row 32 (not b32) (decidePlaces m v sourceHeight targetHeight))))
     (λ k. record { voter = e k; source = es k; target = et k }))
+
+pub places-rows : (m : Model) (v : Vote) (h k : ℕ) {b33 b34 b35 b36 : Bool}
+    → heightsAgree m v h k ≡ b33
+    → ancestor? (m .checkpoints) (v .source) (v .target) ≡ b34
+    → voteHeld (m .votes) v ≡ b35
+    → leb voteLimit (length (m .votes)) ≡ b36
+    → decidePlaces m v h k ≡ row 33 (not b33) (row 34 (not b34) (row 35 b35 (row 36 b36 (answer (addVote v)))))
+unfolding decidePlaces
+places-rows m v h k e33 e34 e35 e36 = rw (e33, e34, e35, e36)
+
+-- the heights given, against those of the table
+module _ {m : Model} {heights : List Height} {n : ℕ} (held : HeightsHeld m heights n) (v : Vote) (h k : ℕ) where
+  pub wrong-source : v .source < n → (h ≡ getD heights (v .source) (height 0) .0 → ⊥) → heightsAgree m v h k ≡ false
+  unfolding heightsAgree
+  wrong-source inside differ = ap (λ (b : Bool). b && eqb k (heightOf (m .checkpoints) (v .target))) (ne-eqb _ _ (λ e. differ (e ∙ held .height (v .source) inside)))
+
+  pub heights-agree : v .source < n → v .target < n → h ≡ getD heights (v .source) (height 0) .0 → (b : Bool) → eqb k (getD heights (v .target) (height 0) .0) ≡ b → heightsAgree m v h k ≡ b
+  unfolding heightsAgree
+  heights-agree s t p b q = ap₂ _&&_ (eq-eqb _ _ (p ∙ sym (held .height (v .source) s))) (ap (eqb k) (held .height (v .target) t) ∙ q)

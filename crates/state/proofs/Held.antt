@@ -9,13 +9,14 @@ use lib.Seq.{length-take-le, getD-take}
 use lib.Dec.{eqb}
 use Rattle.model.specs.Bytes.{part}
 use Rattle.model.specs.Lists.{tabulate, firstIndex, sameBytes}
-use Rattle.model.specs.Model.{Model, Member, Checkpoint, noMember, noCheckpoint, memberIndex, placeOf, checkpointAt}
-use Rattle.model.proofs.Lists.{first-same, length-tabulate, tabulate-at}
+use Rattle.model.specs.Model.{Model, Member, Checkpoint, noMember, noCheckpoint, memberIndex, placeOf, checkpointAt, voteHeld, sameVote}
+use Rattle.model.proofs.Lists.{first-same, length-tabulate, tabulate-at, any-tabulate}
 use Rattle.tables.specs.Rows.{rows}
+use Rattle.tables.proofs.Ancestry.{tree-tabulate}
 use Rattle.tables.proofs.Tables.{rows-length, rows-at}
 use Rattle.state.specs.declared.Witness.{Witness}
-use Rattle.state.specs.State.{modelOf, memberIn, checkpointIn}
-use Rattle.state.specs.Tables.{MembersHeld, NamesHeld, HeightsHeld}
+use Rattle.state.specs.State.{modelOf, memberIn, checkpointIn, voteIn}
+use Rattle.state.specs.Tables.{MembersHeld, NamesHeld, HeightsHeld, AncestorsHeld, VotesHeld}
 
 module _ (w : Witness) where
   pub members-held : w .«member_count» ≤ length (w .ids) → MembersHeld (modelOf w) (w .ids) (w .«member_count»)
@@ -49,3 +50,15 @@ module _ (w : Witness) where
   pub heights-held : HeightsHeld (modelOf w) (w .heights) (w .«checkpoint_count»)
   unfolding modelOf checkpointAt
   heights-held = record { height = λ i h. ap (λ (c : Checkpoint). c .height) (tabulate-at (w .«checkpoint_count») (checkpointIn w) noCheckpoint i h) }
+
+  pub ancestors-held : AncestorsHeld (modelOf w) (w .parents) (w .«checkpoint_count»)
+  unfolding modelOf
+  ancestors-held = record { ancestor = λ a b. sym (tree-tabulate (w .«checkpoint_count») (w .parents) (checkpointIn w) (λ i h. refl) a b) }
+
+  pub votes-held : VotesHeld (modelOf w) (w .voters) (w .sources) (w .targets) (w .«vote_count»)
+  unfolding modelOf voteHeld
+  votes-held =
+      record {
+        count = length-tabulate (w .«vote_count») (voteIn w);
+        held = λ v. any-tabulate (λ u. sameVote u v) (w .«vote_count») (voteIn w);
+      }

@@ -2,12 +2,14 @@
 use Prim.Native.Nat.{ℕ, _*_, _<_}
 use mathlib.Core.Path.{_≡_}
 use mathlib.Core.List.{List}
-use mathlib.Core.Bool.{_&&_}
 use lib.ListN.{length, getD, take}
 use lib.Dec.{eqb}
 use Rattle.model.specs.Lists.{firstIndex, anyBelow, sameBytes}
 use Rattle.model.specs.Model.{Model, Vote, memberIndex, placeOf, heightOf, voteHeld}
+use Rattle.model.specs.Tree.{ancestor?}
 use Rattle.model.specs.declared.Height.{Height}
+use Rattle.model.specs.declared.Place.{Place}
+use Rattle.tables.specs.Places.{treeOf, isVote}
 use Rattle.tables.specs.Rows.{rows}
 use Rattle.state.specs.State.{height}
 
@@ -21,3 +23,10 @@ pub record NamesHeld (m : Model) (names : List ℕ) (n : ℕ) : Type 0 where
 
 pub record HeightsHeld (m : Model) (heights : List Height) (n : ℕ) : Type 0 where
   pub height : (i : ℕ) → i < n → heightOf (m .checkpoints) i ≡ getD heights i (height 0) .0
+
+pub record AncestorsHeld (m : Model) (parents : List Place) (n : ℕ) : Type 0 where
+  pub ancestor : (a b : ℕ) → ancestor? (m .checkpoints) a b ≡ ancestor? (treeOf n parents) a b
+
+pub record VotesHeld (m : Model) (voters : List ℕ) (sources targets : List Place) (n : ℕ) : Type 0 where
+  pub count : length (m .votes) ≡ n
+  pub held : (v : Vote) → voteHeld (m .votes) v ≡ anyBelow n (λ k. isVote voters sources targets (v .voter) (v .source) (v .target) k)

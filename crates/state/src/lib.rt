@@ -9,9 +9,10 @@ ghost use lib.Seq.{paste};
 ghost use Rattle.model.specs.Bytes.{field, part, ascii};
 ghost use Rattle.model.specs.Lists.{sameBytes};
 ghost use Rattle.model.specs.Log.{header};
-ghost use Rattle.model.specs.Model.{Model, addMember};
-ghost use Rattle.model.specs.Decide.{membersFixed, decideMember, decideCheckpoint, decideVote};
-ghost use Rattle.state.specs.Tables.{MembersHeld, NamesHeld, HeightsHeld};
+ghost use Rattle.model.specs.Model.{Model, addMember, addVote};
+ghost use Rattle.model.specs.Decide.{membersFixed, decideMember, decideCheckpoint, decideVote, decidePlaces};
+ghost use Rattle.tables.specs.Places.{Falling};
+ghost use Rattle.state.specs.Tables.{MembersHeld, NamesHeld, HeightsHeld, AncestorsHeld, VotesHeld};
 ghost use Rattle.state.specs.Decision.{verdictOf, descentOf, voteBetween};
 ghost use Rattle.state.specs.State.{Typed, emptyWitness, height, modelOf};
 ghost use Rattle.state.specs.Reading.{IsReading, IsBeginning};
@@ -146,6 +147,54 @@ fn find_endpoints<'a>(
         return Endpoints::Refuse(Refusal::TargetNotHeld);
     }
     Endpoints::Between(id, Place(s as u16), Place(t as u16))
+}
+
+// Rows 33 to 36, on a vote between held places.
+fn decide_places(
+    parents: [Place; 512],
+    heights: [Height; 512],
+    checkpoints: usize,
+    voters: &[u16],
+    sources: [Place; 4096],
+    targets: [Place; 4096],
+    votes: usize,
+    id: u16,
+    s: Place,
+    t: Place,
+    source_height: u32,
+    target_height: u32,
+) -> Verdict
+    requires { ⌜ (checkpoints ≤ 512) × (s .0 < checkpoints) × (t .0 < checkpoints) × Falling checkpoints parents ⌝ }
+    requires { ⌜ (votes ≤ length (now voters)) × (votes ≤ 4096) ⌝ }
+    ensures { λ r. ⌜
+        ((m : Model)
+        → HeightsHeld m heights checkpoints
+        → AncestorsHeld m parents checkpoints
+        → VotesHeld m (now (voters .entry)) sources targets votes
+        → verdictOf (addVote (record { voter = id; source = s .0; target = t .0 })) r
+        ≡ decidePlaces m (record { voter = id; source = s .0; target = t .0 }) «source_height» «target_height»)
+        ⌝ }
+{
+    let i = s.0 as usize;
+    let from = heights[i];
+    if source_height != from.0 {
+        return Verdict::Refuse(Refusal::WrongHeight);
+    }
+    let j = t.0 as usize;
+    let to = heights[j];
+    if target_height != to.0 {
+        return Verdict::Refuse(Refusal::WrongHeight);
+    }
+    if !tables::tree::is_ancestor(parents, checkpoints, s, t) {
+        return Verdict::Refuse(Refusal::NotAncestor);
+    }
+    if tables::votes::vote_held(voters, sources, targets, votes, id, s, t) {
+        return Verdict::Refuse(Refusal::VoteHeld);
+    }
+    if 4096 <= votes {
+        return Verdict::Refuse(Refusal::VotesFull);
+    }
+    Verdict::Take
 }
 
 // What reading a record comes to.

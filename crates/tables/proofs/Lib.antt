@@ -1,2 +1,8 @@
 pub mod Search
 pub mod Tables
+pub mod Below
+pub mod Steps
+pub mod Ancestry
+pub mod Tabulated
+pub mod Sound
+pub mod Pointwise

@@ -9,6 +9,7 @@ use lib.Seq.{drop-drop, getD-take, length-take-le}
 use Rattle.model.specs.Bytes.{part}
 use Rattle.tables.specs.Rows.{rows}
 use Rattle.tables.proofs.Search.{Element}
+use Rattle.tables.proofs.Below.{Elements}
 
 pub ids-at : (n i : ℕ) (l : List ℕ) → n ≤ length l → i < n → Element 0 (take n l) i (getD l i 0)
 ids-at n i l fit h = record { inside = omega (arith, length-take-le n l fit); here = getD-take n l i 0 h }
@@ -26,3 +27,9 @@ getD-rows (suc n) (suc i) l h = getD-rows n i (drop 32 l) (omega arith) ∙ rw (
 
 pub rows-at : (n i : ℕ) (l : List ℕ) → i < n → Element [] (rows n l) i (part (i * 32) 32 l)
 rows-at n i l h = record { inside = omega (arith, rows-length n l); here = getD-rows n i l h }
+
+pub ids-all : (n : ℕ) (l : List ℕ) → n ≤ length l → Elements 0 (take n l) n (λ i. getD l i 0)
+ids-all n l fit = record { many = length-take-le n l fit; each = λ i h. ids-at n i l fit h }
+
+pub rows-all : (n : ℕ) (l : List ℕ) → Elements [] (rows n l) n (λ i. part (i * 32) 32 l)
+rows-all n l = record { many = rows-length n l; each = λ i h. rows-at n i l h }

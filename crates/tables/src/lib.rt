@@ -1,4 +1,5 @@
-// Searches over the held tables: the ids of the members, and the flat table of the checkpoints' names.
+// Searches over the held tables: the ids of the members, and the flat table of the checkpoints' names. What the tables hold
+// as a whole is asked in the modules: of the members, of the tree, of the votes.
 ghost use mathlib.Core.Path.{_≡_};
 ghost use Prim.Native.Nat.{_+_, _*_, _≤_};
 ghost use lib.Dec.{eqb};
@@ -6,6 +7,10 @@ ghost use lib.ListN.{length, take};
 ghost use Rattle.model.specs.Bytes.{part};
 ghost use Rattle.model.specs.Lists.{firstIndex, sameBytes};
 ghost use Rattle.tables.specs.Rows.{rows};
+
+pub mod members;
+pub mod tree;
+pub mod votes;
 
 // The index of the first of the `count` ids that is `id`; `count` where none is.
 pub fn find_id(ids: &[u16], count: usize, id: u16) -> usize

@@ -1,0 +1,60 @@
+// The held checkpoints, three tables: of their names, of their parents and of their heights.
+use crate::find_name;
+use model::Height;
+use model::Place;
+ghost use mathlib.Core.Path.{_≡_};
+ghost use Prim.Native.Nat.{_*_, _≤_, _<_};
+ghost use lib.ListN.{length};
+ghost use Rattle.model.specs.Bytes.{part};
+ghost use Rattle.model.specs.Lists.{allBelow, pairBelow, sameBytes};
+ghost use Rattle.model.specs.Tree.{ancestor?};
+ghost use Rattle.tables.specs.Places.{treeOf, isStep, Falling};
+
+// Whether some name stands twice among the `count` names: each is looked for among those before it.
+pub fn names_twice(names: &[u8], count: usize) -> bool
+    requires { ⌜ (32 * count ≤ length (now names)) × (count ≤ 512) ⌝ }
+    ensures { λ r. ⌜ r ≡ pairBelow count (λ i j. sameBytes (part (i * 32) 32 (now (names .entry))) (part (j * 32) 32 (now (names .entry)))) ⌝ }
+{
+    let mut hit = false;
+    let mut j: usize = 0;
+    while j < count {
+        hit = hit | (find_name(names, j, names, j * 32) < j);
+        j += 1;
+    }
+    hit
+}
+
+// Whether each checkpoint but the root has its parent at a smaller place, at a height one less than its own.
+pub fn tree_sound(parents: [Place; 512], heights: [Height; 512], count: usize) -> bool
+    requires { ⌜ count ≤ 512 ⌝ }
+    ensures { λ r. ⌜ r ≡ allBelow count (λ i. isStep parents heights i) ⌝ }
+{
+    let mut i: usize = 1;
+    while i < count {
+        let parent = parents[i];
+        let p = parent.0 as usize;
+        if i <= p {
+            return false;
+        }
+        let high = heights[i];
+        let low = heights[p];
+        if high.0 as u64 != low.0 as u64 + 1 {
+            return false;
+        }
+        i += 1;
+    }
+    true
+}
+
+// Whether s is an ancestor of t: the walk from t by parents, whose places fall, stops at s or below it.
+pub fn is_ancestor(parents: [Place; 512], count: usize, s: Place, t: Place) -> bool
+    requires { ⌜ (count ≤ 512) × (t .0 < count) × Falling count parents ⌝ }
+    ensures { λ r. ⌜ r ≡ ancestor? (treeOf count parents) (s .0) (t .0) ⌝ }
+{
+    let mut at = t.0;
+    while s.0 < at {
+        let parent = parents[at as usize];
+        at = parent.0;
+    }
+    (at == s.0) & (s.0 < t.0)
+}
