@@ -1,7 +1,7 @@
 -- What a reader gives back, once it is known what was decided.
 use Prim.Native.Nat.{ℕ, _+_, _*_, _<_}
 use mathlib.Core.Path.{_≡_, refl, sym, ap, ap₂, _∙_}
-use mathlib.Core.Bool.{Bool, _||_}
+use mathlib.Core.Bool.{Bool, _||_, not}
 use mathlib.Core.List.{List, _++_}
 use native.Mathlib.Omega.{arith}
 use borrow.Author.Tests.{leb-false}
@@ -9,16 +9,16 @@ use lib.ListN.{length, take, drop, set, replicate}
 use lib.Seq.{paste, take-take}
 use lib.Dec.{ltb}
 use Rattle.model.specs.Answer.{Answer, refused, answer}
-use Rattle.model.specs.Decide.{membersFixed, decideMember, decideCheckpoint}
+use Rattle.model.specs.Decide.{membersFixed, decideMember, decideCheckpoint, heightsAgree, decidePlaces}
 use Rattle.model.specs.Bytes.{field, part}
-use Rattle.model.specs.Limits.{memberLimit, checkpointLimit}
-use Rattle.model.specs.Model.{Change, Member, addMember, addCheckpoint}
+use Rattle.model.specs.Limits.{memberLimit, checkpointLimit, voteLimit}
+use Rattle.model.specs.Model.{Change, Member, Vote, addMember, addCheckpoint, addVote}
 use Rattle.model.specs.Refusals.{refusalNumber}
 use Rattle.model.specs.Run.{told}
 use Rattle.model.specs.declared.Height.{Height}
 use Rattle.model.specs.declared.Place.{Place}
 use Rattle.model.specs.declared.Refusal.{Refusal}
-use Rattle.state.specs.State.{place, height, emptyWitness, modelOf, withMember, withCheckpoint, store}
+use Rattle.state.specs.State.{place, height, emptyWitness, modelOf, withMember, withCheckpoint, withVote, store}
 use Rattle.state.specs.Reading.{IsReading}
 use Rattle.state.specs.declared.Witness.{Witness}
 use Rattle.state.specs.declared.Outcome.the-variants.{Nothing, Taken, Refused}
@@ -112,3 +112,17 @@ pub empty-is : (log : List ℕ) {names : List ℕ} → names ≡ paste (replicat
     ≡ emptyWitness (part 5 32 log)
 unfolding emptyWitness
 empty-is log e = ap (λ (t : List ℕ). record { ids = replicate 128 0; bonds = replicate 128 0; names = t; parents = replicate 512 (place 0); heights = replicate 512 (height 0); voters = replicate 4096 0; sources = replicate 4096 (place 0); targets = replicate 4096 (place 0); «member_count» = 0; «checkpoint_count» = 1; «vote_count» = 0 }) (e ∙ paste-name (replicate 16384 0) 0 0 5 log)
+
+-- a vote that is taken leaves room for it
+pub vote-room : (w : Witness) (v : Vote) (h k : ℕ) → answer (addVote v) ≡ decidePlaces (modelOf w) v h k → w .«vote_count» < 4096
+unfolding decidePlaces
+vote-room w v h k e =
+    let r33 = row-passes 33 (not (heightsAgree (modelOf w) v h k)) _ _ (sym e) in
+    let r34 = row-passes 34 _ _ _ (r33 .rest) in
+    let r35 = row-passes 35 _ _ _ (r34 .rest) in
+    let r36 = row-passes 36 _ _ _ (r35 .rest) in
+    omega (arith, leb-false voteLimit (length (modelOf w .votes)) (r36 .clear), count-votes w)
+
+pub vote-reading : (w : Witness) {a : Answer Change} (n : ℕ) {v : Vote} → answer (addVote v) ≡ a → IsReading w a n (record { outcome = Taken; next = n; witness = withVote w v })
+unfolding told store
+vote-reading w n e = record { outcome = ap told e; next = refl; witness = ap (store w) e }

@@ -1,5 +1,5 @@
 -- What a decision of the code means in document 01's numbers and values.
-use Prim.Native.Nat.{ℕ}
+use Prim.Native.Nat.{ℕ, _<_}
 use mathlib.Core.List.{List}
 use Rattle.model.specs.Answer.{Answer, refused, answer}
 use Rattle.model.specs.Decide.{decidePlaces}
@@ -26,3 +26,8 @@ abbrev pub voteBetween : Model → Endpoints → ℕ → ℕ → Answer Change
 voteBetween m (RefuseVote r) sourceHeight targetHeight = refused (refusalNumber r)
 voteBetween m (Between id source target) sourceHeight targetHeight =
     decidePlaces m (record { voter = id; source = source .0; target = target .0 }) sourceHeight targetHeight
+
+-- the places found are below the number of checkpoints
+abbrev pub Within : ℕ → Endpoints → Type 0
+Within n (RefuseVote r) = Unit {0}
+Within n (Between id source target) = (source .0 < n) × (target .0 < n)

@@ -13,7 +13,7 @@ ghost use Rattle.model.specs.Model.{Model, addMember, addVote};
 ghost use Rattle.model.specs.Decide.{membersFixed, decideMember, decideCheckpoint, decideVote, decidePlaces};
 ghost use Rattle.tables.specs.Places.{Falling};
 ghost use Rattle.state.specs.Tables.{MembersHeld, NamesHeld, HeightsHeld, AncestorsHeld, VotesHeld};
-ghost use Rattle.state.specs.Decision.{verdictOf, descentOf, voteBetween};
+ghost use Rattle.state.specs.Decision.{verdictOf, descentOf, voteBetween, Within};
 ghost use Rattle.state.specs.State.{Typed, emptyWitness, height, modelOf};
 ghost use Rattle.state.specs.Reading.{IsReading, IsBeginning};
 
@@ -133,6 +133,7 @@ fn find_endpoints<'a>(
         sourceHeight
         targetHeight)
         ⌝ }
+    ensures { λ r. ⌜ Within checkpoints r ⌝ }
 {
     let id = wire::be16(log, at + 1);
     if members <= tables::find_id(ids, members, id) {
@@ -356,5 +357,72 @@ pub fn begin(w: Witness, log: &[u8]) -> Beginning
     Beginning {
         outcome: Start::Begun,
         witness: empty(log),
+    }
+}
+
+// The vote record at `at`.
+fn read_vote(mut w: Witness, log: &[u8], at: usize) -> Reading
+    requires { ⌜ Typed w × (w .«member_count» ≤ 128) × (w .«checkpoint_count» ≤ 512) × (w .«vote_count» ≤ 4096) ⌝ }
+    requires { ⌜ (at + 75 ≤ length (now log)) × Falling (w .«checkpoint_count») (w .parents) ⌝ }
+    ensures { λ r. ⌜
+        IsReading w
+        (decideVote (modelOf w)
+        (field 1 2 (drop at (now (log .entry))))
+        (part 3 32 (drop at (now (log .entry))))
+        (part 35 32 (drop at (now (log .entry))))
+        (field 67 4 (drop at (now (log .entry))))
+        (field 71 4 (drop at (now (log .entry)))))
+        (at + 75)
+        r
+        ⌝ }
+{
+    let checkpoints = w.checkpoint_count;
+    let count = w.vote_count;
+    let members = w.member_count;
+    match find_endpoints(&w.ids, members, &w.names, checkpoints, log, at) {
+        Endpoints::Refuse(r) => Reading {
+            outcome: Outcome::Refused(r),
+            next: at + 75,
+            witness: w,
+        },
+        Endpoints::Between(id, s, t) => {
+            let parents = w.parents;
+            let heights = w.heights;
+            let sources = w.sources;
+            let targets = w.targets;
+            let source_height = wire::be32(log, at + 67);
+            let target_height = wire::be32(log, at + 71);
+            match decide_places(
+                parents,
+                heights,
+                checkpoints,
+                &w.voters,
+                sources,
+                targets,
+                count,
+                id,
+                s,
+                t,
+                source_height,
+                target_height,
+            ) {
+                Verdict::Refuse(r) => Reading {
+                    outcome: Outcome::Refused(r),
+                    next: at + 75,
+                    witness: w,
+                },
+                Verdict::Take => {
+                    w.voters[count] = id;
+                    w.sources[count] = s;
+                    w.targets[count] = t;
+                    w.vote_count = count + 1;
+                    Reading {
+                        outcome: Outcome::Taken,
+                        next: at + 75,
+                        witness: w,
+                    }
+                }
+            }
+        }
     }
 }
