@@ -4,3 +4,5 @@ pub mod Store
 pub mod Kept
 pub mod Readings
 pub mod Header
+pub mod ByKind
+pub mod Ready

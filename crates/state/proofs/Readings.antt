@@ -9,10 +9,11 @@ use lib.ListN.{length, take, drop, set, replicate}
 use lib.Seq.{paste, take-take}
 use lib.Dec.{ltb}
 use Rattle.model.specs.Answer.{Answer, refused, answer}
-use Rattle.model.specs.Decide.{membersFixed, decideMember, decideCheckpoint, heightsAgree, decidePlaces}
+use Rattle.model.specs.Decide.{membersFixed, decideMember, decideCheckpoint, heightsAgree, decidePlaces, decide}
 use Rattle.model.specs.Bytes.{field, part}
 use Rattle.model.specs.Limits.{memberLimit, checkpointLimit, voteLimit}
-use Rattle.model.specs.Model.{Change, Member, Vote, addMember, addCheckpoint, addVote}
+use Rattle.model.specs.Model.{Change, nothing, Member, Vote, addMember, addCheckpoint, addVote}
+use Rattle.model.specs.Log.{recordLength}
 use Rattle.model.specs.Refusals.{refusalNumber}
 use Rattle.model.specs.Run.{told}
 use Rattle.model.specs.declared.Height.{Height}
@@ -20,9 +21,11 @@ use Rattle.model.specs.declared.Place.{Place}
 use Rattle.model.specs.declared.Refusal.{Refusal}
 use Rattle.state.specs.State.{place, height, emptyWitness, modelOf, withMember, withCheckpoint, withVote, store}
 use Rattle.state.specs.Reading.{IsReading}
+use Rattle.state.specs.declared.Reading.{Reading}
 use Rattle.state.specs.declared.Witness.{Witness}
 use Rattle.state.specs.declared.Outcome.the-variants.{Nothing, Taken, Refused}
 use Rattle.model.proofs.Answer.{row-passes}
+use Rattle.state.proofs.ByKind.{Decided}
 use Rattle.state.proofs.Decided.{field-at, part-at}
 use Rattle.state.proofs.Kept.{count-members, count-checkpoints, count-votes}
 
@@ -126,3 +129,19 @@ vote-room w v h k e =
 pub vote-reading : (w : Witness) {a : Answer Change} (n : ℕ) {v : Vote} → answer (addVote v) ≡ a → IsReading w a n (record { outcome = Taken; next = n; witness = withVote w v })
 unfolding told store
 vote-reading w n e = record { outcome = ap told e; next = refl; witness = ap (store w) e }
+
+-- by what is decided on the bytes from an offset on
+module _ (w : Witness) (at : ℕ) {s : List ℕ} where
+  pub nothing-reading : Decided (modelOf w) s (answer nothing) 0
+      → IsReading w (decide (modelOf w) s) (at + recordLength s) (record { outcome = Nothing; next = at; witness = w })
+  unfolding told store
+  nothing-reading d = record { outcome = sym (ap told (d .answer)); next = omega (arith, d .passed); witness = sym (ap (store w) (d .answer)) }
+
+  pub stop-reading : {r : Refusal} → Decided (modelOf w) s (refused (refusalNumber r)) 0
+      → IsReading w (decide (modelOf w) s) (at + recordLength s) (record { outcome = Refused r; next = at; witness = w })
+  unfolding told store
+  stop-reading d = record { outcome = sym (ap told (d .answer)); next = omega (arith, d .passed); witness = sym (ap (store w) (d .answer)) }
+
+  pub whole-reading : {a : Answer Change} {n : ℕ} {r : Reading} → Decided (modelOf w) s a n → IsReading w a (at + n) r → IsReading w (decide (modelOf w) s) (at + recordLength s) r
+  whole-reading d i =
+      record { outcome = i .outcome ∙ sym (ap told (d .answer)); next = i .next ∙ ap (λ (k : ℕ). at + k) (sym (d .passed)); witness = i .witness ∙ sym (ap (store w) (d .answer)) }

@@ -8,9 +8,11 @@ ghost use lib.ListN.{length, take, drop, getD};
 ghost use lib.Seq.{paste};
 ghost use Rattle.model.specs.Bytes.{field, part, ascii};
 ghost use Rattle.model.specs.Lists.{sameBytes};
-ghost use Rattle.model.specs.Log.{header};
+ghost use Rattle.model.specs.Log.{header, recordSize, recordLength};
+ghost use Rattle.model.specs.Limits.{rootHeight};
+ghost use Rattle.model.specs.WellFormed.{WellFormed};
 ghost use Rattle.model.specs.Model.{Model, addMember, addVote};
-ghost use Rattle.model.specs.Decide.{membersFixed, decideMember, decideCheckpoint, decideVote, decidePlaces};
+ghost use Rattle.model.specs.Decide.{membersFixed, decideMember, decideCheckpoint, decideVote, decidePlaces, decide};
 ghost use Rattle.tables.specs.Places.{Falling};
 ghost use Rattle.state.specs.Tables.{MembersHeld, NamesHeld, HeightsHeld, AncestorsHeld, VotesHeld};
 ghost use Rattle.state.specs.Decision.{verdictOf, descentOf, voteBetween, Within};
@@ -424,5 +426,57 @@ fn read_vote(mut w: Witness, log: &[u8], at: usize) -> Reading
                 }
             }
         }
+    }
+}
+
+// A record's bytes in all, by its kind byte; 0 where the kind is unknown.
+fn record_size(kind: u8) -> usize
+    ensures { λ r. ⌜ r ≡ recordSize kind ⌝ }
+{
+    match kind {
+        1 => 11,
+        2 => 65,
+        3 => 75,
+        0 | 4..=255 => 0,
+    }
+}
+
+// The record at `at`, into a sound witness: rows 4 and 5, then those of its kind.
+pub fn read_record(w: Witness, log: &[u8], at: usize) -> Reading
+    requires { ⌜ Typed w × WellFormed rootHeight (modelOf w) ⌝ }
+    ensures { λ r. ⌜
+        IsReading w
+        (decide (modelOf w) (drop at (now (log .entry))))
+        (at + recordLength (drop at (now (log .entry))))
+        r
+        ⌝ }
+{
+    if log.len() <= at {
+        return Reading {
+            outcome: Outcome::Nothing,
+            next: at,
+            witness: w,
+        };
+    }
+    let kind = log[at];
+    let size = record_size(kind);
+    if size == 0 {
+        return Reading {
+            outcome: Outcome::Refused(Refusal::UnknownKind),
+            next: at,
+            witness: w,
+        };
+    }
+    if log.len() - at < size {
+        return Reading {
+            outcome: Outcome::Refused(Refusal::CutRecord),
+            next: at,
+            witness: w,
+        };
+    }
+    match kind {
+        1 => read_member(w, log, at),
+        2 => read_checkpoint(w, log, at),
+        _ => read_vote(w, log, at),
     }
 }
