@@ -1,24 +1,27 @@
--- The cases that document 01 marks ●, in one table, each computed.
+-- Cases, each computed, in three tables: those that document 01 marks ●; those that shut out plausible and wrong
+-- versions; and for each row of "Why something is turned back" that the model decides, at least one.
 use Prim.Native.Nat.{ℕ}
 use Prim.Native.String.{String}
 use mathlib.Core.Path.{_≡_, refl}
 use mathlib.Core.List.{List, [], _∷_, _++_, flatMap}
-use mathlib.Core.Bool.{Bool, true, false}
-use lib.ListN.{length, drop, replicate}
-use Rattle.model.specs.Answer.{Answer, refused, answer, row}
+use mathlib.Core.Bool.{true, false}
+use lib.ListN.{length, take, replicate}
+use Rattle.model.specs.Answer.{refused, answer, row}
 use Rattle.model.specs.Bytes.{beOf, beBytes, field, ascii}
 use Rattle.model.specs.Checker.{check, checkFrom, entries, ownVote?}
 use Rattle.model.specs.Decide.{decide, decideRecord, decideMember, decideCheckpoint, decideVote, decidePlaces, heightsAgree, bondOutOfRange, membersFixed, idHeld, nameHeld}
 use Rattle.model.specs.Evidence.{ourList, charges, chargeOf, conduct, conductFrom, broken?, violator?, byId, insertById, listBytes, entryBytes, bondOf}
 use Rattle.model.specs.Finality.{justifiedMarks, justified?, final?, status, conflicting?}
-use Rattle.model.specs.Lists.{any, anyBelow, firstIndex, sameBytes}
-use Rattle.model.specs.Log.{header, recordSize, decode, decodeWhole}
-use Rattle.model.specs.Model.{Model, Checkpoint, Vote, addMember, addCheckpoint, addVote, start, append, apply, memberAt, checkpointAt, voteAt, memberIndex, placeOf, voteHeld}
+use Rattle.model.specs.Limits.{rootHeight}
+use Rattle.model.specs.Lists.{allOf, any, anyBelow, allBelow, pairBelow, firstIndex, sameBytes, tabulate}
+use Rattle.model.specs.Log.{header, recordSize, recordLength, decode, decodeWhole}
+use Rattle.model.specs.Model.{Model, Checkpoint, Vote, nothing, addMember, addCheckpoint, addVote, start, append, apply, memberAt, checkpointAt, voteAt, memberIndex, placeOf, voteHeld}
 use Rattle.model.specs.Report.{report, reportBody, reportRun, summary, outcomeLines, outcomeLine, stops?, refusedLine, stoppedLine, checkpointLines, checkpointLine, statusText, memberLine, conductText, totalLine, yesNo, decimal, digits, newline}
 use Rattle.model.specs.Run.{after, decideEvent, outcomes, readings}
 use Rattle.model.specs.Slashing.{breaks?, doubleVote?, surroundVote?}
 use Rattle.model.specs.Support.{count, sum, quorum, support, supports, link?}
 use Rattle.model.specs.Tree.{child?, reached?, ancestor?, conflict?}
+use Rattle.model.specs.WellFormed.{wellFormed?, bonds?, tree?, vote?, votes?, idTwice?, nameTwice?, voteTwice?}
 
 -- a name of one letter, repeated
 abbrev name : String → List ℕ
@@ -105,17 +108,21 @@ pub record MarkedCases : Type 0 where
 abbrev threeMembers : List ℕ
 threeMembers = member 1 1 ++ member 2 1 ++ member 3 1
 
--- a model with the given numbers of members, checkpoints and votes, to meet the limits
-abbrev filled : ℕ → ℕ → ℕ → Model
-filled members checkpoints votes =
-    record {
-      members = replicate members (record { id = 1; bond = 1 });
-      checkpoints = replicate checkpoints (record { name = name "R"; parent = 0; height = 0 }) ++ record { name = name "A"; parent = 0; height = 1 } ∷ [];
-      votes = replicate votes (record { voter = 2; source = 0; target = 0 });
-    }
+-- three members whose ids and bonds differ, the ids in no order
+abbrev unequal : List ℕ
+unequal = member 300 10 ++ member 0 1000000000000 ++ member 65535 7
 
-abbrev rootAlone : ℕ → Model
-rootAlone members = record { members = replicate members (record { id = 1; bond = 1 }); checkpoints = start (name "R") .checkpoints; votes = [] }
+-- a chain R, A, B, C
+abbrev line4 : List ℕ
+line4 = checkpoint "A" "R" ++ checkpoint "B" "A" ++ checkpoint "C" "B"
+
+-- a surrounding pair of member 300, and two votes of member 65535 for one target
+abbrev evidence : List ℕ
+evidence = unequal ++ line4 ++ vote 300 "R" 0 "C" 3 ++ vote 300 "A" 1 "B" 2 ++ vote 65535 "R" 0 "B" 2 ++ vote 65535 "A" 1 "B" 2
+
+-- a list of charges: its count, then the fields of its entries
+abbrev list : List ℕ → List ℕ
+list fields = ascii "FFP" ++ beBytes 2 1 ++ flatMap (beBytes 2) fields
 
 pub record WrongVersions : Type 0 where
   -- a vote whose source isn't justified yet counts once it is
@@ -138,30 +145,112 @@ pub record WrongVersions : Type 0 where
       ++ line "member 2 bond 1 clear"
       ++ line "member 3 bond 1 clear"
       ++ line "total 3 named 0 conflict no"
-  -- full exactly at the limits
-  member-128 : decide (rootAlone 127) (member 9 1) ≡ answer (addMember (record { id = 9; bond = 1 }))
-  member-129 : decide (rootAlone 128) (member 9 1) ≡ refused 13
-  checkpoint-512 : decide (filled 1 510 0) (checkpoint "B" "R") ≡ answer (addCheckpoint (record { name = name "B"; parent = 0; height = 1 }))
-  checkpoint-513 : decide (filled 1 511 0) (checkpoint "B" "R") ≡ refused 22
-  vote-4096 : decide (filled 1 1 4095) (vote 1 "R" 0 "A" 1) ≡ answer (addVote (record { voter = 1; source = 0; target = 1 }))
-  vote-4097 : decide (filled 1 1 4096) (vote 1 "R" 0 "A" 1) ≡ refused 36
-  bond-limit : decide (rootAlone 0) (member 9 1000000000000) ≡ answer (addMember (record { id = 9; bond = 1000000000000 }))
-  bond-above : decide (rootAlone 0) (member 9 1000000000001) ≡ refused 11
-  -- the first number that applies: a bond of 0 under an id that is held; a root with a wrong height as its own target
-  bond-before-id : decide (rootAlone 1) (member 1 0) ≡ refused 11
-  height-before-ancestor : decide (filled 1 1 0) (vote 1 "R" 0 "R" 1) ≡ refused 33
-  -- a log is stopped by an unknown kind and by a cut record; the refused lines stay
-  stopped : report (headerBytes ++ member 1 0 ++ 9 ∷ []) ≡ line "refused 0 number 11" ++ line "stopped 4 record 1"
-  cut : report (headerBytes ++ 3 ∷ replicate 10 0) ≡ line "stopped 5 record 0"
+  -- no vote is turned away for the evidence that it gives; members by rising id; bonds, not members, are named
+  evidence-kept : report (headerBytes ++ evidence ++ 9 ∷ []) ≡ line "stopped 4 record 10"
+  evidence-shown :
+      report (headerBytes ++ evidence)
+      ≡ line "checkpoint 0 height 0 justified"
+      ++ line "checkpoint 1 height 1 plain"
+      ++ line "checkpoint 2 height 2 plain"
+      ++ line "checkpoint 3 height 3 plain"
+      ++ line "member 0 bond 1000000000000 clear"
+      ++ line "member 300 bond 10 broken 0 1"
+      ++ line "member 65535 bond 7 broken 2 3"
+      ++ line "total 1000000000017 named 17 conflict no"
+  -- two votes from different sources for one target break the first condition
+  one-target : breaks? chain (along 0 3) (along 1 3) ≡ true
+  -- each supporter is counted once, with its bond
+  supporters :
+      support (after (start (name "R")) (readings 400 (unequal ++ line4 ++ vote 300 "R" 0 "A" 1 ++ vote 0 "R" 0 "A" 1))) 0 1
+      ≡ record { number = 2; bonds = 1000000000010; yes? = true }
+  -- at the log's end no record is left, and nothing is refused
+  nothing-left : decide session [] ≡ answer nothing
+  -- the checker passes lists that are not ours
+  empty-list : check session (list (0 ∷ [])) ≡ answer 0
+  other-pair : check session (list (1 ∷ 2 ∷ 3 ∷ 6 ∷ [])) ≡ answer 1
 
-pub cases : MarkedCases × WrongVersions
+-- ---- the rows of the table
+
+-- Members 1 and 2; one checkpoint more than the first number; the second number of votes, all alike. No run reaches such
+-- a model, in which a name and a vote stand many times: it only meets the limits.
+abbrev filled : ℕ → ℕ → Model
+filled checkpoints votes =
+    record {
+      members = record { id = 1; bond = 1 } ∷ record { id = 2; bond = 1 } ∷ [];
+      checkpoints = replicate checkpoints (record { name = name "R"; parent = 0; height = 0 }) ++ record { name = name "A"; parent = 0; height = 1 } ∷ [];
+      votes = replicate votes (record { voter = 2; source = 0; target = 1 });
+    }
+
+-- the root alone, and members with ids from 0 on
+abbrev rootAlone : ℕ → Model
+rootAlone members = record { members = tabulate members (λ i. record { id = i; bond = 1 }); checkpoints = start (name "R") .checkpoints; votes = [] }
+
+-- Each row with its number where it applies, and where a later row would apply too. Rows 41 and 60 are a call's alone.
+pub record RowCases : Type 0 where
+  row-1 : header [] ≡ refused 1
+  row-1-short : header (take 36 headerBytes) ≡ refused 1
+  row-1-report : report [] ≡ line "stopped 1 record 0"
+  row-2 : header (ascii "FFX" ++ replicate 34 0) ≡ refused 2
+  row-2-report : report (ascii "FFX" ++ replicate 34 0) ≡ line "stopped 2 record 0"
+  row-3 : header (ascii "FFW" ++ beBytes 2 2 ++ name "R") ≡ refused 3
+  row-3-high : header (ascii "FFW" ++ beBytes 2 257 ++ name "R") ≡ refused 3
+  -- the refused lines stay, and nothing after the unknown kind is read
+  row-4 : report (headerBytes ++ member 1 0 ++ 9 ∷ []) ≡ line "refused 0 number 11" ++ line "stopped 4 record 1"
+  row-4-ends : report (headerBytes ++ member 1 1 ++ 9 ∷ member 1 0) ≡ line "stopped 4 record 1"
+  row-4-zero : decide session (0 ∷ []) ≡ refused 4
+  row-4-four : decide session (4 ∷ replicate 100 0) ≡ refused 4
+  row-5 : report (headerBytes ++ 3 ∷ replicate 10 0) ≡ line "stopped 5 record 0"
+  row-5-kind : decide session (1 ∷ []) ≡ refused 5
+  row-5-member : decide session (take 10 (member 9 1)) ≡ refused 5
+  row-5-checkpoint : decide session (take 64 (checkpoint "E" "A")) ≡ refused 5
+  row-5-vote : decide session (take 74 (vote 1 "R" 0 "C" 2)) ≡ refused 5
+  row-10 : decide session (member 1 0) ≡ refused 10
+  row-10-checkpoint : decide (filled 1 0) (member 9 1) ≡ refused 10
+  row-11 : decide (rootAlone 2) (member 1 0) ≡ refused 11
+  row-11-above : decide (rootAlone 0) (member 9 1000000000001) ≡ refused 11
+  row-11-limit : decide (rootAlone 0) (member 9 1000000000000) ≡ answer (addMember (record { id = 9; bond = 1000000000000 }))
+  row-12 : decide (rootAlone 128) (member 1 1) ≡ refused 12
+  row-13 : decide (rootAlone 128) (member 128 1) ≡ refused 13
+  row-13-room : decide (rootAlone 127) (member 128 1) ≡ answer (addMember (record { id = 128; bond = 1 }))
+  row-20 : decide session (checkpoint "R" "Z") ≡ refused 20
+  row-20-full : decide (filled 511 0) (checkpoint "A" "R") ≡ refused 20
+  row-21 : decide (filled 511 0) (checkpoint "Z" "Z") ≡ refused 21
+  row-22 : decide (filled 511 0) (checkpoint "B" "R") ≡ refused 22
+  row-22-room : decide (filled 510 0) (checkpoint "B" "R") ≡ answer (addCheckpoint (record { name = name "B"; parent = 0; height = 1 }))
+  row-30 : decide session (vote 9 "Y" 7 "Z" 7) ≡ refused 30
+  row-31 : decide session (vote 1 "Y" 7 "Z" 7) ≡ refused 31
+  row-32 : decide session (vote 1 "R" 7 "Z" 7) ≡ refused 32
+  row-33 : decide session (vote 1 "R" 0 "R" 1) ≡ refused 33
+  row-33-source : decide session (vote 1 "R" 1 "A" 1) ≡ refused 33
+  row-34 : decide session (vote 1 "R" 0 "R" 0) ≡ refused 34
+  row-34-branch : decide session (vote 1 "A" 1 "D" 2) ≡ refused 34
+  row-35 : decide session (vote 3 "B" 1 "D" 2) ≡ refused 35
+  row-35-full : decide (filled 1 4096) (vote 2 "R" 0 "A" 1) ≡ refused 35
+  row-36 : decide (filled 1 4096) (vote 1 "R" 0 "A" 1) ≡ refused 36
+  row-36-room : decide (filled 1 4095) (vote 1 "R" 0 "A" 1) ≡ answer (addVote (record { voter = 1; source = 0; target = 1 }))
+  row-40 : wellFormed? rootHeight (rootAlone 129) ≡ false
+  row-40-room : wellFormed? rootHeight (rootAlone 128) ≡ true
+  row-40-session : wellFormed? rootHeight session ≡ true
+  row-50 : check session (take 6 (ourList session)) ≡ refused 50
+  row-50-first : check session (ascii "FFW" ++ beBytes 2 0 ++ beBytes 2 1) ≡ refused 50
+  row-50-more : check session (ourList session ++ 0 ∷ []) ≡ refused 50
+  row-51 : check session (ascii "FFW" ++ beBytes 2 0 ++ beBytes 2 0) ≡ refused 51
+  row-52 : check session (ascii "FFP" ++ beBytes 2 0 ++ beBytes 2 0) ≡ refused 52
+  row-53 : check session (list (2 ∷ 2 ∷ 1 ∷ 4 ∷ 2 ∷ 9 ∷ 9 ∷ [])) ≡ refused 53
+  row-54 : check session (list (1 ∷ 9 ∷ 9 ∷ 9 ∷ [])) ≡ refused 54
+  row-55 : check session (list (1 ∷ 2 ∷ 4096 ∷ 1 ∷ [])) ≡ refused 55
+  row-55-other : check session (list (1 ∷ 2 ∷ 5 ∷ 4 ∷ [])) ≡ refused 55
+  row-56 : check session (list (1 ∷ 2 ∷ 4 ∷ 4 ∷ [])) ≡ refused 56
+  row-57 : check session (list (1 ∷ 1 ∷ 0 ∷ 2 ∷ [])) ≡ refused 57
+
+pub cases : MarkedCases × WrongVersions × RowCases
 unfolding
-    row any anyBelow firstIndex sameBytes beOf beBytes field ascii start append apply memberAt checkpointAt voteAt memberIndex placeOf voteHeld
-    child? reached? ancestor? conflict? header recordSize decode decodeWhole decide decideRecord decideMember decideCheckpoint decideVote decidePlaces heightsAgree bondOutOfRange
+    row allOf any anyBelow allBelow pairBelow firstIndex tabulate sameBytes beOf beBytes field ascii start append apply memberAt checkpointAt voteAt memberIndex placeOf voteHeld
+    child? reached? ancestor? conflict? header recordSize recordLength decode decodeWhole decide decideRecord decideMember decideCheckpoint decideVote decidePlaces heightsAgree bondOutOfRange
     membersFixed idHeld nameHeld decideEvent after outcomes readings count sum supports quorum support link? justifiedMarks justified? final? status conflicting?
     doubleVote? surroundVote? breaks? conductFrom conduct broken? violator? insertById byId digits decimal newline statusText checkpointLine checkpointLines
     conductText memberLine yesNo totalLine summary stops? stoppedLine refusedLine outcomeLine outcomeLines reportRun reportBody report flatMap
-    entries ownVote? checkFrom check chargeOf charges listBytes entryBytes ourList bondOf
+    entries ownVote? checkFrom check chargeOf charges listBytes entryBytes ourList bondOf wellFormed? bonds? tree? vote? votes? idTwice? nameTwice? voteTwice?
 cases = (
   record {
     session-report = refl;
@@ -181,17 +270,68 @@ cases = (
   record {
     late-source = refl;
     grandchild = refl;
-    member-128 = refl;
-    member-129 = refl;
-    checkpoint-512 = refl;
-    checkpoint-513 = refl;
-    vote-4096 = refl;
-    vote-4097 = refl;
-    bond-limit = refl;
-    bond-above = refl;
-    bond-before-id = refl;
-    height-before-ancestor = refl;
-    stopped = refl;
-    cut = refl;
+    evidence-kept = refl;
+    evidence-shown = refl;
+    one-target = refl;
+    supporters = refl;
+    nothing-left = refl;
+    empty-list = refl;
+    other-pair = refl;
+  },
+  record {
+    row-1 = refl;
+    row-1-short = refl;
+    row-1-report = refl;
+    row-2 = refl;
+    row-2-report = refl;
+    row-3 = refl;
+    row-3-high = refl;
+    row-4 = refl;
+    row-4-ends = refl;
+    row-4-zero = refl;
+    row-4-four = refl;
+    row-5 = refl;
+    row-5-kind = refl;
+    row-5-member = refl;
+    row-5-checkpoint = refl;
+    row-5-vote = refl;
+    row-10 = refl;
+    row-10-checkpoint = refl;
+    row-11 = refl;
+    row-11-above = refl;
+    row-11-limit = refl;
+    row-12 = refl;
+    row-13 = refl;
+    row-13-room = refl;
+    row-20 = refl;
+    row-20-full = refl;
+    row-21 = refl;
+    row-22 = refl;
+    row-22-room = refl;
+    row-30 = refl;
+    row-31 = refl;
+    row-32 = refl;
+    row-33 = refl;
+    row-33-source = refl;
+    row-34 = refl;
+    row-34-branch = refl;
+    row-35 = refl;
+    row-35-full = refl;
+    row-36 = refl;
+    row-36-room = refl;
+    row-40 = refl;
+    row-40-room = refl;
+    row-40-session = refl;
+    row-50 = refl;
+    row-50-first = refl;
+    row-50-more = refl;
+    row-51 = refl;
+    row-52 = refl;
+    row-53 = refl;
+    row-54 = refl;
+    row-55 = refl;
+    row-55-other = refl;
+    row-56 = refl;
+    row-57 = refl;
   },
 )

@@ -1,23 +1,23 @@
 -- Status and conflict answer: exactly what the inductive rules say, in every well-formed model.
-use Prim.Native.Nat.{ℕ, zero, suc, _+_, _<_, _≤_}
+use Prim.Native.Nat.{ℕ, zero, suc, _<_}
 use native.Mathlib.Omega.{arith}
-use mathlib.Core.Path.{_≡_, refl, sym, ap, _∙_, subst}
-use mathlib.Core.Logic.{_⊎_, inl, inr, ⊎-elim, _↔_}
-use mathlib.Core.List.{List, [], _∷_, _++_}
-use mathlib.Core.Bool.{Bool, true, false, cond, _&&_, _||_, false≢true}
-use borrow.Author.Tests.{eqb-true, eq-eqb}
+use mathlib.Core.Path.{_≡_, refl, sym, _∙_, subst}
+use mathlib.Core.Logic.{inl, inr, ⊎-elim}
+use mathlib.Core.List.{[], _∷_, _++_}
+use mathlib.Core.Bool.{Bool, true, false, _&&_, _||_}
+use borrow.Author.Tests.{eqb-true}
 use lib.ListN.{length, getD, length-append, List·getD-append, List·getD-eq-default}
 use lib.Seq.{getD-at}
 use lib.Dec.{eqb}
+use Rattle.model.specs.Exact.{StatusExact, ConflictExact}
 use Rattle.model.specs.Lists.{anyBelow}
-use Rattle.model.specs.Model.{Model, Checkpoint}
-use Rattle.model.specs.Support.{link?, Link}
-use Rattle.model.specs.Tree.{Child, Ancestor, Conflict, child?, conflict?}
-use Rattle.model.specs.Finality.{JustifiedBy, root, link, FinalBy, Justified, Final, ConflictingFinals, justifiedMarks, justified?, final?, status, conflicting?}
+use Rattle.model.specs.Model.{Model}
+use Rattle.model.specs.Support.{link?}
+use Rattle.model.specs.Tree.{child?, conflict?}
+use Rattle.model.specs.Finality.{root, link, Justified, Final, ConflictingFinals, justifiedMarks, justified?, final?, status, conflicting?}
 use Rattle.model.specs.WellFormed.{WellFormed}
-use Rattle.model.specs.declared.Status.{Status}
-use Rattle.model.specs.declared.Status.the-variants.{Plain, Justified as JustifiedOnly, Final as FinalToo}
-use Rattle.model.proofs.Lists.{Below, below-found, found-below, both, and-left, and-right, or-left, or-right, or-cases, clash, decided, not-so, lt-or-ge}
+use Rattle.model.specs.declared.Status.the-variants.{Plain as PlainStatus, Justified as JustifiedStatus, Final as FinalStatus}
+use Rattle.model.proofs.Lists.{Below, below-found, found-below, both, and-left, and-right, or-right, or-cases, clash, lt-or-ge}
 use Rattle.model.proofs.Tree.{child-true, true-child, ancestor-later, conflict-true, true-conflict}
 use Rattle.model.proofs.Support.{link-climbs, link-held}
 
@@ -57,12 +57,6 @@ module _ (m : Model) where
           link
           (ih s (omega (arith, b .inside)) (sym (marks-at p s (b .inside)) ∙ and-left (getD (justifiedMarks m p) s false) (link? m s p) (b .passes)))
           (and-right (getD (justifiedMarks m p) s false) (link? m s p) (b .passes))
-
--- the status of a place: exactly by the rules; a final checkpoint counts as justified too
-pub record StatusExact (m : Model) (p : ℕ) : Type 0 where
-  pub final : (status m p ≡ FinalToo) ↔ Final m p
-  pub justified : ((status m p ≡ JustifiedOnly) ⊎ (status m p ≡ FinalToo)) ↔ Justified m p
-  pub plain : (status m p ≡ Plain) ↔ (Justified m p → ⊥)
 
 apart : _≡_ {A = ℕ} 0 1 → ⊥
 apart e = omega arith
@@ -109,8 +103,7 @@ module _ (root-height : ℕ) (m : Model) (good : WellFormed root-height m) where
       (found-below (length (m .checkpoints)) (λ k. child? (m .checkpoints) p k && link? m p k) (f .child) (f .direct .inside)
       (both (true-child (m .checkpoints) p (f .child) (f .direct)) (f .linked)))
 
-  -- the conflict answer is yes exactly when two final checkpoints conflict
-  pub conflicting-true : conflicting? m ≡ true → ConflictingFinals m
+  conflicting-true : conflicting? m ≡ true → ConflictingFinals m
   unfolding conflicting?
   conflicting-true e =
       let n = length (m .checkpoints) in
@@ -125,7 +118,7 @@ module _ (root-height : ℕ) (m : Model) (good : WellFormed root-height m) where
         conflict = conflict-true root-height (m .checkpoints) (good .tree) (a .at) (b .at) (and-right (final? m (a .at) && final? m (b .at)) (conflict? (m .checkpoints) (a .at) (b .at)) (b .passes));
       }
 
-  pub true-conflicting : ConflictingFinals m → conflicting? m ≡ true
+  true-conflicting : ConflictingFinals m → conflicting? m ≡ true
   unfolding conflicting?
   true-conflicting c =
       let n = length (m .checkpoints) in
@@ -135,27 +128,37 @@ module _ (root-height : ℕ) (m : Model) (good : WellFormed root-height m) where
       (both (true-final (c .one) (c .one-final)) (true-final (c .other) (c .other-final)))
       (true-conflict root-height (m .checkpoints) (good .tree) (c .one) (c .other) (c .conflict))))
 
+  pub conflict-exact : ConflictExact m
+  conflict-exact = (conflicting-true, true-conflicting)
+
   pub status-exact : (p : ℕ) → StatusExact m p
   unfolding status
   status-exact p = go (final? m p) (justified? m p) refl refl
     where
       go : (f j : Bool) → final? m p ≡ f → justified? m p ≡ j → StatusExact m p
       go true j ef ej =
-          let s : status m p ≡ FinalToo = rw ef in
+          let s : status m p ≡ FinalStatus = rw ef in
           let fin = final-true p ef in
-          record { final = (λ q. fin, λ q. s); justified = (λ q. fin .justified, λ q. inr s); plain = (λ q. absurd (apart (cc)), λ n. absurd (n (fin .justified))) }
+          record {
+            final = (λ q. fin, λ q. s);
+            justified = (λ q. fin .justified, λ q. inr s);
+            justified-only = (λ q. absurd (apart (cc)), λ n. absurd (n .1 fin));
+            plain = (λ q. absurd (apart (cc)), λ n. absurd (n (fin .justified)));
+          }
       go false true ef ej =
-          let s : status m p ≡ JustifiedOnly = rw (ef, ej) in
+          let s : status m p ≡ JustifiedStatus = rw (ef, ej) in
           let just = justified-true p ej in
           record {
             final = (λ q. absurd (apart (cc)), λ fin. clash (true-final p fin) ef);
             justified = (λ q. just, λ q. inl s);
+            justified-only = (λ q. (just, λ fin. clash (true-final p fin) ef), λ n. s);
             plain = (λ q. absurd (apart (cc)), λ n. absurd (n just));
           }
       go false false ef ej =
-          let s : status m p ≡ Plain = rw (ef, ej) in
+          let s : status m p ≡ PlainStatus = rw (ef, ej) in
           record {
             final = (λ q. absurd (apart (cc)), λ fin. clash (true-final p fin) ef);
             justified = (⊎-elim (λ q. absurd (apart (cc))) (λ q. absurd (apart (cc))), λ just. clash (true-justified p just) ej);
+            justified-only = (λ q. absurd (apart (cc)), λ n. clash (true-justified p (n .0)) ej);
             plain = (λ q just. clash (true-justified p just) ej, λ n. s);
           }

@@ -1,6 +1,7 @@
 pub mod Lists
 pub mod Growth
 pub mod Answer
+pub mod Refusals
 pub mod Bytes
 pub mod Tree
 pub mod Support
@@ -11,4 +12,5 @@ pub mod Charges
 pub mod Checker
 pub mod Sound
 pub mod Run
+pub mod Readings
 pub mod Cases

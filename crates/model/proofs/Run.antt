@@ -1,20 +1,19 @@
 -- What every run keeps: the model stays well formed, whatever is read.
 use Prim.Native.Nat.{ℕ, zero, suc, _+_, _<_, _≤_, _^_}
 use native.Mathlib.Omega.{arith}
-use mathlib.Core.Path.{_≡_, refl, sym, ap, _∙_, subst, subst₂}
-use mathlib.Core.Logic.{_⊎_, inl, inr, ⊎-elim}
+use mathlib.Core.Path.{_≡_, refl, sym, ap, _∙_}
 use mathlib.Core.List.{List, [], _∷_, _++_}
-use mathlib.Core.Bool.{Bool, true, false, cond, _&&_, _||_, not}
-use borrow.Author.Tests.{eqb-true, eqb-false, eq-eqb, ltb-true, ltb-false, leb-false, lt-ltb, not-true, not-false}
+use mathlib.Core.Bool.{Bool, true, false, cond, _||_, not}
+use borrow.Author.Tests.{eq-eqb, ltb-true, ltb-false, leb-false, lt-ltb, not-false}
 use lib.ListN.{length, getD}
-use lib.Dec.{eqb, ltb, leb}
-use Rattle.model.specs.Answer.{Answer, refused, answer, row}
+use lib.Dec.{eqb, ltb}
+use Rattle.model.specs.Answer.{Answer, refused, answer}
 use Rattle.model.specs.Bytes.{AreBytes, part, field}
 use Rattle.model.specs.Decide.{membersFixed, bondOutOfRange, idHeld, nameHeld, decideMember, decideCheckpoint, heightsAgree, decidePlaces, decideVote, decideRecord, decide}
 use Rattle.model.specs.Limits.{memberLimit, checkpointLimit, voteLimit, bondLimit, rootHeight}
-use Rattle.model.specs.Lists.{sameBytes, any, All, none, each}
+use Rattle.model.specs.Lists.{sameBytes, All, none, each}
 use Rattle.model.specs.Log.{Record, nothingLeft, unknownKind, cutRecord, memberRecord, checkpointRecord, voteRecord, decode, decodeWhole, recordSize}
-use Rattle.model.specs.Model.{Model, Member, Checkpoint, Vote, Change, nothing, addMember, addCheckpoint, addVote, start, append, apply}
+use Rattle.model.specs.Model.{Model, Member, Checkpoint, Vote, Change, addVote, start, append, apply}
 use Rattle.model.specs.Model.{memberAt, checkpointAt, voteAt, heightOf, parentOf, memberIndex, placeOf, sameVote, voteHeld, noMember, noCheckpoint, noVote}
 use Rattle.model.specs.Run.{Event, reading, decideEvent, after, OfBytes}
 use Rattle.model.specs.Tree.{Child, Ancestor, near, far, ancestor?}
@@ -22,7 +21,7 @@ use Rattle.model.specs.WellFormed.{GoodMembers, GoodTree, GoodVote, Well
 use Rattle.model.proofs.Answer.{row-elim}
 use Rattle.model.proofs.Bytes.{field-below}
 use Rattle.model.proofs.Growth.{grown-length, grown-old, grown-new, grown-all, grown-pairs}
-use Rattle.model.proofs.Lists.{any-first, none-any, both, and-left, and-right, or-left, or-right, clash, decided, not-so, lt-or-ge, same-eq, eq-same}
+use Rattle.model.proofs.Lists.{any-first, first-passes, none-any, or-left, or-right, clash, not-so, same-eq, eq-same}
 use Rattle.model.proofs.Tree.{ancestor-true}
 
 or-false-left : (a b : Bool) → (a || b) ≡ false → a ≡ false
@@ -52,6 +51,11 @@ id-held m id e = ltb-true _ _ e
 pub name-held : (m : Model) (name : List ℕ) → nameHeld m name ≡ true → placeOf (m .checkpoints) name < length (m .checkpoints)
 unfolding nameHeld
 name-held m name e = ltb-true _ _ e
+
+-- a held name stands at its place
+pub name-at : (m : Model) (name : List ℕ) → nameHeld m name ≡ true → checkpointAt (m .checkpoints) (placeOf (m .checkpoints) name) .name ≡ name
+unfolding checkpointAt placeOf
+name-at m name e = same-eq _ _ (first-passes (λ c. sameBytes (c .name) name) noCheckpoint (m .checkpoints) (name-held m name e))
 
 -- ---- one member more
 

@@ -1,6 +1,7 @@
 -- What is decided on the bytes from an offset on: nothing, a refusal, or what is added. Rows 4 and 5, then those of the
--- record's kind, in rising number. Each row is written here and nowhere else.
-use Prim.Native.Nat.{ℕ, suc, _+_}
+-- record's kind, in rising number. Rows 1 to 3, and what makes a kind unknown or a record cut (4 and 5), are in Log.antt;
+-- rows 50 to 57 are in Checker.antt. No row is written twice.
+use Prim.Native.Nat.{ℕ, _+_}
 use mathlib.Core.List.{List}
 use mathlib.Core.Bool.{Bool, _&&_, _||_, not}
 use lib.ListN.{length}
@@ -8,7 +9,7 @@ use lib.Dec.{eqb, ltb, leb}
 use Rattle.model.specs.Answer.{Answer, refused, answer, row}
 use Rattle.model.specs.Limits.{memberLimit, checkpointLimit, voteLimit, bondLimit}
 use Rattle.model.specs.Log.{Record, nothingLeft, unknownKind, cutRecord, memberRecord, checkpointRecord, voteRecord, decode}
-use Rattle.model.specs.Model.{Model, Member, Checkpoint, Vote, Change, nothing, addMember, addCheckpoint, addVote}
+use Rattle.model.specs.Model.{Model, Member, Vote, Change, nothing, addMember, addCheckpoint, addVote}
 use Rattle.model.specs.Model.{heightOf, memberIndex, placeOf, voteHeld}
 use Rattle.model.specs.Tree.{ancestor?}
 

@@ -1,8 +1,7 @@
 -- Justified, final, conflicting finals: source document 002, section 2, with bonds as weights.
-use Prim.Native.Nat.{ℕ, zero, suc, _<_}
-use mathlib.Core.Path.{_≡_}
+use Prim.Native.Nat.{ℕ, zero, suc}
 use mathlib.Core.List.{List, [], _∷_, _++_}
-use mathlib.Core.Bool.{Bool, true, false, cond, _&&_, _||_}
+use mathlib.Core.Bool.{Bool, false, cond, _&&_, _||_}
 use lib.ListN.{length, getD}
 use lib.Dec.{eqb}
 use Rattle.model.specs.Lists.{anyBelow}
@@ -10,7 +9,7 @@ use Rattle.model.specs.Model.{Model, Checkpoint}
 use Rattle.model.specs.Support.{link?, Link}
 use Rattle.model.specs.Tree.{Child, Conflict, child?, conflict?}
 use Rattle.model.specs.declared.Status.{Status}
-use Rattle.model.specs.declared.Status.the-variants.{Plain, Justified as JustifiedOnly, Final as FinalToo}
+use Rattle.model.specs.declared.Status.the-variants.{Plain as PlainStatus, Justified as JustifiedStatus, Final as FinalStatus}
 
 -- "Justified: the root, or the target of a supermajority link with a justified source." Over any relation for the links.
 pub data JustifiedBy (L : ℕ → ℕ → Type 0) : ℕ → Type 0 where
@@ -55,7 +54,7 @@ final? m p = justified? m p && anyBelow (length (m .checkpoints)) (λ c. child? 
 
 -- document 01's standing of a place
 unfoldable pub status : Model → ℕ → Status
-status m p = cond (final? m p) FinalToo (cond (justified? m p) JustifiedOnly Plain)
+status m p = cond (final? m p) FinalStatus (cond (justified? m p) JustifiedStatus PlainStatus)
 
 -- the conflict answer
 unfoldable pub conflicting? : Model → Bool

@@ -1,11 +1,11 @@
 -- Accountable safety, source document 002, theorem 1, with bonds as weights: if two final checkpoints conflict, the
 -- members whose votes break a slashing condition hold at least a third of all bonds; our list names them and passes.
 use Prim.Native.Nat.{ℕ, _*_, _≤_}
-use native.Mathlib.Omega.{arith}
 use native.Mathlib.Nat.{mul-le-mul-left, le-trans}
 use mathlib.Core.Path.{_≡_, sym, ap, subst₂}
 use mathlib.Core.Bool.{Bool, true, _&&_}
 use Rattle.model.specs.Evidence.{violator?}
+use Rattle.model.specs.Exact.{Violation}
 use Rattle.model.specs.Finality.{ConflictingFinals}
 use Rattle.model.specs.Limits.{rootHeight}
 use Rattle.model.specs.Model.{Model, Member, Vote, start, voteFor}
@@ -13,13 +13,13 @@ use Rattle.model.specs.Run.{after}
 use Rattle.model.specs.Slashing.{Breaks}
 use Rattle.model.specs.Support.{Link, sum, supports, total}
 use Rattle.model.specs.WellFormed.{WellFormed}
-use Rattle.model.proofs.Checker.{our-list-passes, innocent}
-use Rattle.model.proofs.Conduct.{Violation, two-votes, true-violator}
-use Rattle.model.proofs.Lists.{and-left, and-right}
+use Rattle.model.proofs.Charges.{true-guilty}
+use Rattle.model.proofs.Checker.{our-list-passes, checker-exact}
+use Rattle.model.proofs.Conduct.{two-votes, true-violator}
+use Rattle.model.proofs.Lists.{and-left, and-right, all-map}
 use Rattle.model.proofs.Run.{reached-good}
-use Rattle.model.proofs.Slashing.{breaks-true}
 use Rattle.model.proofs.Support.{Held, supports-held, link-quorum, link-climbs}
-use Rattle.safety.specs.Share.{ShareNamed, AccountableSafety, NoneInnocent}
+use Rattle.safety.specs.Share.{AccountableSafety, NoInnocentNamed}
 use Rattle.safety.proofs.Crossing.{CrossingLinks, crossing-links}
 use Rattle.safety.proofs.Weight.{quorums-share, sum-mono}
 
@@ -58,8 +58,7 @@ accountable-safety name es bytes finals =
     let good = reached-good name es bytes in
     record { named = sum (violator? m) (m .members); passes = our-list-passes rootHeight m good; share = share-of-violators rootHeight m good finals }
 
-pub none-innocent : NoneInnocent
-none-innocent m l cs s layout passes c named keeps =
-    let v = innocent m l cs s layout passes c named in
-    let p = v .pair in
-    keeps (v .one) (v .other) (omega (arith, p .order, p .held)) (p .held) (p .voter) (breaks-true (m .checkpoints) _ _ (p .breaks))
+pub no-innocent-named : NoInnocentNamed
+no-innocent-named m l s bytes passes =
+    let p = checker-exact m l bytes .passes passes in
+    record { passed = p; guilty = all-map (true-guilty m) (p .holds) }

@@ -1,10 +1,12 @@
 -- What two conflicting final checkpoints imply, and what no list that passes does: the two statements of this crate.
 use Prim.Native.Nat.{ℕ, _*_, _≤_}
 use mathlib.Core.Path.{_≡_}
-use mathlib.Core.List.{List, List·Memᴰ}
+use mathlib.Core.List.{List}
 use Rattle.model.specs.Answer.{answer}
+use Rattle.model.specs.Bytes.{AreBytes}
 use Rattle.model.specs.Checker.{check}
-use Rattle.model.specs.Evidence.{Charge, Layout, KeepsRules, ourList}
+use Rattle.model.specs.Evidence.{KeepsRules, ourList}
+use Rattle.model.specs.Exact.{Passed}
 use Rattle.model.specs.Finality.{ConflictingFinals}
 use Rattle.model.specs.Lists.{All}
 use Rattle.model.specs.Model.{Model, start}
@@ -21,6 +23,11 @@ pub record ShareNamed (m : Model) : Type 0 where
 abbrev pub AccountableSafety : Type 0
 AccountableSafety = (name : List ℕ) (es : List Event) → All OfBytes es → ConflictingFinals (after (start name) es) → ShareNamed (after (start name) es)
 
+-- what a list that passes says, and that each id in it has votes that break a condition
+pub record NamesViolators (m : Model) (l : List ℕ) (s : ℕ) : Type 0 where
+  pub passed : Passed m l s
+  pub guilty : All (λ c. KeepsRules m (c .id) → ⊥) (passed .listed)
+
 -- no list that the checker passes, whoever wrote it, names a member whose votes keep both conditions
-abbrev pub NoneInnocent : Type 0
-NoneInnocent = (m : Model) (l : List ℕ) (cs : List Charge) (s : ℕ) → Layout l cs → check m l ≡ answer s → (c : Charge) → List·Memᴰ c cs → KeepsRules m (c .id) → ⊥
+abbrev pub NoInnocentNamed : Type 0
+NoInnocentNamed = (m : Model) (l : List ℕ) (s : ℕ) → AreBytes l → check m l ≡ answer s → NamesViolators m l s

@@ -1,0 +1,64 @@
+-- Two refusals with one number are one: a number gives its refusal back.
+use Prim.Native.Nat.{ℕ}
+use mathlib.Core.Path.{_≡_, refl, sym, ap, _∙_}
+use mathlib.Core.List.{List, [], _∷_}
+use lib.ListN.{getD}
+use lib.Dec.{eqb}
+use Rattle.model.specs.Lists.{firstIndex}
+use Rattle.model.specs.Refusals.{refusalNumber}
+use Rattle.model.specs.declared.Refusal.{Refusal}
+use Rattle.model.specs.declared.Refusal.the-variants.{LogTooShort, LogMark, LogVersion, UnknownKind, CutRecord, MembersFixed}
+use Rattle.model.specs.declared.Refusal.the-variants.{BondOutOfRange, IdHeld, MembersFull, NameHeld, ParentNotHeld, CheckpointsFull}
+use Rattle.model.specs.declared.Refusal.the-variants.{VoterNotHeld, SourceNotHeld, TargetNotHeld, WrongHeight, NotAncestor, VoteHeld}
+use Rattle.model.specs.declared.Refusal.the-variants.{VotesFull, UnsoundState, PlaceNotHeld, ListLength, ListMark, ListVersion}
+use Rattle.model.specs.declared.Refusal.the-variants.{IdNotRising, ChargedNotHeld, NotOwnVote, NotEarlier, NoViolation, BufferTooShort}
+
+-- the table's cases in its order
+unfoldable pub refusals : List Refusal
+refusals =
+    LogTooShort ∷ LogMark ∷ LogVersion ∷ UnknownKind ∷ CutRecord ∷ MembersFixed
+    ∷ BondOutOfRange ∷ IdHeld ∷ MembersFull ∷ NameHeld ∷ ParentNotHeld ∷ CheckpointsFull
+    ∷ VoterNotHeld ∷ SourceNotHeld ∷ TargetNotHeld ∷ WrongHeight ∷ NotAncestor ∷ VoteHeld
+    ∷ VotesFull ∷ UnsoundState ∷ PlaceNotHeld ∷ ListLength ∷ ListMark ∷ ListVersion
+    ∷ IdNotRising ∷ ChargedNotHeld ∷ NotOwnVote ∷ NotEarlier ∷ NoViolation ∷ BufferTooShort
+    ∷ []
+
+-- the refusal with a number; the first of the table where no refusal has it
+unfoldable pub refusalOf : ℕ → Refusal
+refusalOf n = getD refusals (firstIndex (λ r. eqb (refusalNumber r) n) refusals) LogTooShort
+
+pub refusal-back : (r : Refusal) → refusalOf (refusalNumber r) ≡ r
+unfolding refusalOf refusals firstIndex
+refusal-back LogTooShort = refl
+refusal-back LogMark = refl
+refusal-back LogVersion = refl
+refusal-back UnknownKind = refl
+refusal-back CutRecord = refl
+refusal-back MembersFixed = refl
+refusal-back BondOutOfRange = refl
+refusal-back IdHeld = refl
+refusal-back MembersFull = refl
+refusal-back NameHeld = refl
+refusal-back ParentNotHeld = refl
+refusal-back CheckpointsFull = refl
+refusal-back VoterNotHeld = refl
+refusal-back SourceNotHeld = refl
+refusal-back TargetNotHeld = refl
+refusal-back WrongHeight = refl
+refusal-back NotAncestor = refl
+refusal-back VoteHeld = refl
+refusal-back VotesFull = refl
+refusal-back UnsoundState = refl
+refusal-back PlaceNotHeld = refl
+refusal-back ListLength = refl
+refusal-back ListMark = refl
+refusal-back ListVersion = refl
+refusal-back IdNotRising = refl
+refusal-back ChargedNotHeld = refl
+refusal-back NotOwnVote = refl
+refusal-back NotEarlier = refl
+refusal-back NoViolation = refl
+refusal-back BufferTooShort = refl
+
+pub refusal-number-injective : (a b : Refusal) → refusalNumber a ≡ refusalNumber b → a ≡ b
+refusal-number-injective a b e = sym (refusal-back a) ∙ ap refusalOf e ∙ refusal-back b
