@@ -6,3 +6,4 @@ pub mod Readings
 pub mod Header
 pub mod ByKind
 pub mod Ready
+pub mod Started

@@ -44,7 +44,7 @@ paste-more d at log from i e inside read =
 
 -- names pasted into the flat table
 module _ (d : List ℕ) (n : ℕ) (name : List ℕ) (fits : n * 32 + 32 ≤ length d) (long : length name ≡ 32) where
-  paste-new : part (n * 32) 32 (paste d (n * 32) name 32) ≡ name
+  pub paste-new : part (n * 32) 32 (paste d (n * 32) name 32) ≡ name
   paste-new =
       ap (part (n * 32) 32) (append-assoc (take (n * 32) d) (take 32 name) (drop (n * 32 + 32) d))
       ∙ ap (take 32) (drop-at (take (n * 32) d) (take 32 name ++ drop (n * 32 + 32) d) (n * 32) (length-take-le (n * 32) d (omega arith)))

@@ -1,13 +1,20 @@
 -- What the public calls give: row 40 before everything else wherever a state is handed in.
 use Prim.Native.Nat.{ℕ}
-use mathlib.Core.List.{List}
-use mathlib.Core.Bool.{Bool, cond, not}
-use Rattle.model.specs.Answer.{Answer, row}
+use mathlib.Core.List.{List, _++_}
+use mathlib.Core.Bool.{Bool, cond, _&&_, not}
+use lib.Dec.{ltb}
+use lib.ListN.{length, drop}
+use Rattle.model.specs.Answer.{Answer, refused, answer, row}
+use Rattle.model.specs.Checker.{check}
 use Rattle.model.specs.Decide.{decide}
+use Rattle.model.specs.Evidence.{ourList}
+use Rattle.model.specs.Finality.{status, conflicting?}
 use Rattle.model.specs.Limits.{rootHeight}
 use Rattle.model.specs.Log.{recordLength}
 use Rattle.model.specs.Model.{Change, Model}
+use Rattle.model.specs.Support.{Support, support}
 use Rattle.model.specs.WellFormed.{wellFormed?}
+use Rattle.model.specs.declared.Status.{Status}
 use Rattle.state.specs.State.{modelOf}
 use Rattle.state.specs.declared.Witness.{Witness}
 
@@ -26,3 +33,28 @@ decided w s = onSound w (λ m. decide m s)
 -- the bytes that reading passes over: none where 40 applies
 unfoldable pub passed : Witness → List ℕ → ℕ
 passed w s = cond (sound? w) (recordLength s) 0
+
+-- the status of a place: 41 where it isn't held
+unfoldable pub statusCall : Witness → ℕ → Answer Status
+statusCall w p = onSound w (λ m. row 41 (not (ltb p (length (m .checkpoints)))) (answer (status m p)))
+
+-- the support of a link between two places
+unfoldable pub supportCall : Witness → ℕ → ℕ → Answer Support
+supportCall w s t = onSound w (λ m. row 41 (not (ltb s (length (m .checkpoints)) && ltb t (length (m .checkpoints)))) (answer (support m s t)))
+
+-- whether any two final checkpoints conflict
+unfoldable pub conflictCall : Witness → Answer Bool
+conflictCall w = onSound w (λ m. answer (conflicting? m))
+
+-- our list into a lent buffer: its length, or 60 where the buffer is shorter
+unfoldable pub listCall : Witness → List ℕ → Answer ℕ
+listCall w buffer = onSound w (λ m. row 60 (ltb (length buffer) (length (ourList m))) (answer (length (ourList m))))
+
+-- the buffer afterwards: the list and then what was there; as it was where the call is refused
+unfoldable pub listBuffer : Witness → List ℕ → Answer ℕ → List ℕ
+listBuffer w buffer (refused n) = buffer
+listBuffer w buffer (answer n) = ourList (modelOf w) ++ drop n buffer
+
+-- the checker: the sum of the named bonds
+unfoldable pub checkCall : Witness → List ℕ → Answer ℕ
+checkCall w l = onSound w (λ m. check m l)

@@ -1,0 +1,131 @@
+-- Demand 3, proved: the witness after a run holds the model after the run, and every call answers by it.
+use Prim.Native.Nat.{ℕ, _+_, _*_, _<_, _≤_, _^_}
+use native.Mathlib.Omega.{arith}
+use mathlib.Core.Path.{_≡_, refl, sym, ap, ap₂, _∙_, subst, subst₂}
+use mathlib.Core.List.{List, [], _∷_, _++_, map}
+use mathlib.Core.Bool.{Bool, true, not}
+use borrow.Author.Tests.{lt-ltb}
+use lib.Dec.{ltb}
+use lib.ListN.{length, drop}
+use Rattle.model.specs.Answer.{Answer, refused, answer, row}
+use Rattle.model.specs.Bytes.{AreBytes, part}
+use Rattle.model.specs.Checker.{check}
+use Rattle.model.specs.Decide.{decide}
+use Rattle.model.specs.Evidence.{ourList}
+use Rattle.model.specs.Finality.{ConflictingFinals, status, conflicting?}
+use Rattle.model.specs.Limits.{rootHeight}
+use Rattle.model.specs.Lists.{All, none, each, tabulate}
+use Rattle.model.specs.Model.{Model, Checkpoint, start, apply}
+use Rattle.model.specs.Run.{Event, reading, OfBytes, told, decideEvent, after, outcomes}
+use Rattle.model.specs.WellFormed.{WellFormed}
+use Rattle.model.proofs.Checker.{checker-exact, list-exact}
+use Rattle.model.proofs.Finality.{status-exact, conflict-exact}
+use Rattle.model.proofs.Lists.{lt-or-ge}
+use Rattle.model.proofs.Run.{start-good, event-good, run-good}
+use Rattle.model.proofs.Sound.{true-well-formed}
+use Rattle.safety.proofs.Safety.{accountable-safety, no-innocent-named}
+use Rattle.state.specs.State.{Sized, Typed, place, height, emptyWitness, modelOf, store, checkpointIn}
+use Rattle.state.specs.declared.Witness.{Witness}
+use Rattle.state.proofs.Kept.{Kept, reading-kept}
+use Rattle.state.proofs.Started.{empty-model, empty-typed}
+use Rattle.witness.specs.Calls.{sound?, onSound, decided, statusCall, conflictCall, listCall, listBuffer, checkCall}
+use Rattle.witness.proofs.Guarded.{on-sound}
+use Rattle.guarantee.specs.Demand3.{witnessAfter, toldOf, Guarantee, Demand3}
+
+good-sound : (w : Witness) → WellFormed rootHeight (modelOf w) → sound? w ≡ true
+unfolding sound?
+good-sound w good = true-well-formed rootHeight (modelOf w) good
+
+-- where the witness holds the model, and goes on holding it
+pub record Holds (w : Witness) (b : Model) : Type 0 where
+  pub model : modelOf w ≡ b
+  pub typed : Typed w
+  pub good : WellFormed rootHeight b
+
+well-formed : (w : Witness) (b : Model) → Holds w b → WellFormed rootHeight (modelOf w)
+well-formed w b h = subst (WellFormed rootHeight) (sym (h .model)) (h .good)
+
+-- what the call decides is what the model decides
+decided-is : (w : Witness) (b : Model) → Holds w b → (s : List ℕ) → decided w s ≡ decide b s
+unfolding decided
+decided-is w b h s = on-sound w (λ m. decide m s) (good-sound w (well-formed w b h)) ∙ ap (λ (m : Model). decide m s) (h .model)
+
+step-holds : (w : Witness) (b : Model) → Holds w b → (s : List ℕ) → AreBytes s → Holds (store w (decided w s)) (apply b (decide b s))
+unfolding decideEvent
+step-holds w b h s bytes =
+    let kept = reading-kept w (h .typed) s bytes in
+    let same : decided w s ≡ decide (modelOf w) s = decided-is w b h s ∙ ap (λ (m : Model). decide m s) (sym (h .model)) in
+    record {
+      model = ap (λ a. modelOf (store w a)) same ∙ kept .model ∙ ap (λ (m : Model). apply m (decide m s)) (h .model);
+      typed = subst (λ a. Typed (store w a)) (sym same) (kept .typed);
+      good = event-good rootHeight b (h .good) (reading s) bytes;
+    }
+
+run-holds : (w : Witness) (b : Model) → Holds w b → (es : List Event) → All OfBytes es → Holds (witnessAfter w es) (after b es)
+unfolding witnessAfter after decideEvent
+run-holds w b h [] none = h
+run-holds w b h (reading s ∷ es) (each bytes rest) = run-holds (store w (decided w s)) (apply b (decide b s)) (step-holds w b h s bytes) es rest
+
+run-told : (w : Witness) (b : Model) → Holds w b → (es : List Event) → All OfBytes es → toldOf w es ≡ map told (outcomes b es)
+unfolding toldOf outcomes decideEvent
+run-told w b h [] none = refl
+run-told w b h (reading s ∷ es) (each bytes rest) =
+    ap₂ _∷_ (ap told (decided-is w b h s)) (run-told (store w (decided w s)) (apply b (decide b s)) (step-holds w b h s bytes) es rest)
+
+start-holds : (name : List ℕ) → length name ≡ 32 → Holds (emptyWitness name) (start name)
+start-holds name long = record { model = empty-model name long; typed = empty-typed name long; good = start-good name }
+
+-- a call's answer is the rules' answer on the model
+answered : {A : Type 0} (w : Witness) (b : Model) → Holds w b → (answers : Model → Answer A) → onSound w answers ≡ answers b
+answered w b h answers = on-sound w answers (good-sound w (well-formed w b h)) ∙ ap answers (h .model)
+
+-- ---- each field
+
+module _ (w : Witness) (b : Model) (h : Holds w b) where
+  status-is : (p : ℕ) → p < length (b .checkpoints) → statusCall w p ≡ answer (status b p)
+  unfolding statusCall row
+  status-is p inside =
+      answered w b h (λ m. row 41 (not (ltb p (length (m .checkpoints)))) (answer (status m p)))
+      ∙ ap (λ (t : Bool). row 41 (not t) (answer (status b p))) (lt-ltb p (length (b .checkpoints)) inside)
+
+  conflict-is : conflictCall w ≡ answer (conflicting? b)
+  unfolding conflictCall
+  conflict-is = answered w b h (λ m. answer (conflicting? m))
+
+  list-is : (buffer : List ℕ) → listCall w buffer ≡ row 60 (ltb (length buffer) (length (ourList b))) (answer (length (ourList b)))
+  unfolding listCall
+  list-is buffer = answered w b h (λ m. row 60 (ltb (length buffer) (length (ourList m))) (answer (length (ourList m))))
+
+  written : (buffer : List ℕ) (n : ℕ) → listCall w buffer ≡ answer n → listBuffer w buffer (listCall w buffer) ≡ ourList b ++ drop n buffer
+  unfolding listBuffer
+  written buffer n e = ap (listBuffer w buffer) e ∙ ap (λ (m : Model). ourList m ++ drop n buffer) (h .model)
+
+  untouched : (buffer : List ℕ) (n : ℕ) → listCall w buffer ≡ refused n → listBuffer w buffer (listCall w buffer) ≡ buffer
+  unfolding listBuffer
+  untouched buffer n e = ap (listBuffer w buffer) e
+
+  check-is : (l : List ℕ) → checkCall w l ≡ check b l
+  unfolding checkCall
+  check-is l = answered w b h (λ m. check m l)
+
+pub demand-3 : Demand3
+demand-3 name long es bytes =
+    let w = witnessAfter (emptyWitness name) es in
+    let b = after (start name) es in
+    let h = run-holds (emptyWitness name) (start name) (start-holds name long) es bytes in
+    record {
+      outcomes-agree = run-told (emptyWitness name) (start name) (start-holds name long) es bytes;
+      held = h .model;
+      status-answer = status-is w b h;
+      status-exact = status-exact rootHeight b (h .good);
+      conflict-answer = conflict-is w b h;
+      conflict-exact = conflict-exact rootHeight b (h .good);
+      list-answer = list-is w b h;
+      list-written = written w b h;
+      list-untouched = untouched w b h;
+      list-exact = list-exact rootHeight b (h .good);
+      checker-answer = check-is w b h;
+      checker-exact = λ l. checker-exact b l;
+      none-innocent = no-innocent-named b;
+      share = accountable-safety name es bytes;
+    }

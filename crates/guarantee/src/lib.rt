@@ -1,0 +1,1 @@
+// Demand 3 as one theorem about every run: the statement is in specs/, its proof in proofs/.

@@ -1,0 +1,56 @@
+-- The empty witness holds the model's start.
+use Prim.Native.Nat.{ℕ, zero, suc, _+_, _*_, _<_, _≤_, _^_}
+use native.Mathlib.Omega.{arith}
+use mathlib.Core.Path.{_≡_, refl, sym, ap, _∙_, subst}
+use mathlib.Core.Logic.{⊎-elim}
+use mathlib.Core.List.{List, [], _∷_}
+use lib.ListN.{length, getD, replicate, length-replicate}
+use lib.Seq.{paste, length-paste}
+use Rattle.model.specs.Bytes.{part}
+use Rattle.model.specs.Lists.{tabulate}
+use Rattle.model.specs.Model.{Model, Checkpoint, start}
+use Rattle.state.specs.State.{Typed, place, height, emptyWitness, modelOf, checkpointIn}
+use Rattle.state.proofs.Store.{paste-new}
+
+zeros : ℕ → List ℕ
+zeros n = replicate n 0
+
+zeros-long : (n : ℕ) → length (zeros n) ≡ n
+unfolding zeros
+zeros-long n = length-replicate n 0
+
+zeros-low : (n i : ℕ) → getD (zeros n) i 0 < 2 ^ 16
+unfolding zeros
+zeros-low zero i = omega arith
+zeros-low (suc n) zero = omega arith
+zeros-low (suc n) (suc i) = zeros-low n i
+
+-- the root's name, in a table of zeros
+root-name : (n : ℕ) (name : List ℕ) → 32 ≤ n → length name ≡ 32 → part 0 32 (paste (zeros n) 0 name 32) ≡ name
+root-name n name h long = paste-new (zeros n) 0 name (omega (arith, zeros-long n)) long
+
+root-table : (n : ℕ) (name : List ℕ) → 32 ≤ n → length name ≡ 32 → length (paste (zeros n) 0 name 32) ≡ n
+root-table n name h long = length-paste (zeros n) 0 name 32 (omega (arith, zeros-long n)) (omega arith) ∙ zeros-long n
+
+pub empty-model : (name : List ℕ) → length name ≡ 32 → modelOf (emptyWitness name) ≡ start name
+unfolding modelOf emptyWitness start tabulate zeros
+empty-model name long =
+    λ i. record { members = []; checkpoints = record { name = root-name 16384 name (omega arith) long i; parent = 0; height = 0 } ∷ []; votes = [] }
+
+pub empty-typed : (name : List ℕ) → length name ≡ 32 → Typed (emptyWitness name)
+unfolding emptyWitness zeros
+empty-typed name long =
+    record {
+      sized =
+          record {
+            ids = zeros-long 128;
+            bonds = zeros-long 128;
+            names = root-table 16384 name (omega arith) long;
+            parents = length-replicate 512 (place 0);
+            heights = length-replicate 512 (height 0);
+            voters = zeros-long 4096;
+            sources = length-replicate 4096 (place 0);
+            targets = length-replicate 4096 (place 0);
+          };
+      ids = zeros-low 128;
+    }
