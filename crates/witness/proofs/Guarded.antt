@@ -5,6 +5,7 @@ use native.Mathlib.Nat.{add-zero}
 use mathlib.Core.Path.{_≡_, refl, sym, ap, _∙_, subst}
 use mathlib.Core.List.{List}
 use mathlib.Core.Bool.{Bool, true, false, cond, not}
+use borrow.Author.Tests.{not-true, not-false}
 use lib.ListN.{length}
 use Rattle.model.specs.Answer.{Answer, refused, row}
 use Rattle.model.specs.Decide.{decide}
@@ -12,7 +13,7 @@ use Rattle.model.specs.Limits.{rootHeight}
 use Rattle.model.specs.Log.{recordLength}
 use Rattle.model.specs.Model.{Member, Model, memberAt, noMember}
 use Rattle.model.specs.Run.{told}
-use Rattle.model.specs.WellFormed.{WellFormed}
+use Rattle.model.specs.WellFormed.{WellFormed, wellFormed?}
 use Rattle.model.specs.declared.Refusal.the-variants.{UnsoundState}
 use Rattle.model.proofs.Lists.{tabulate-at}
 use Rattle.model.proofs.Sound.{well-formed-true}
@@ -34,6 +35,19 @@ sound-good w typed e = well-formed-true rootHeight (modelOf w) narrow e
 
     narrow : (i : ℕ) → i < length (modelOf w .members) → memberAt (modelOf w .members) i .id < 2 ^ 16
     narrow i h = subst (λ (x : Member). x .id < 2 ^ 16) (sym (member-is i (omega (arith, count-members w)))) (typed .ids i)
+
+-- what `is_sound` said of the state, and the branch on it
+module _ (w : Witness) {r : Bool} (said : (r ≡ wellFormed? rootHeight (modelOf w)) × Typed w) where
+  pub passes-40 : not r ≡ false → sound? w ≡ true
+  unfolding sound?
+  passes-40 e = sym (said .0) ∙ not-false r e
+
+  pub meets-40 : not r ≡ true → sound? w ≡ false
+  unfolding sound?
+  meets-40 e = sym (said .0) ∙ not-true r e
+
+  pub good-state : not r ≡ false → Typed w × WellFormed rootHeight (modelOf w)
+  good-state e = (said .1, sound-good w (said .1) (passes-40 e))
 
 module _ {A : Type 0} (w : Witness) (answers : Model → Answer A) where
   pub on-unsound : sound? w ≡ false → onSound w answers ≡ refused 40

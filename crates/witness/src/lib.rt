@@ -1,15 +1,18 @@
 // The public calls of the witness. None asks anything of its caller: what is handed in is checked.
+use checker::CheckAnswer;
 use model::Refusal;
 use state::Beginning;
 use state::Outcome;
 use state::Reading;
 use state::Witness;
+ghost use mathlib.Core.Path.{_≡_};
 ghost use Prim.Native.Nat.{_+_};
 ghost use lib.ListN.{drop};
 ghost use Rattle.model.specs.Bytes.{part};
 ghost use Rattle.model.specs.Log.{header};
 ghost use Rattle.state.specs.Reading.{IsReading, IsBeginning};
-ghost use Rattle.witness.specs.Calls.{decided, passed};
+ghost use Rattle.checker.specs.Check.{checkOf};
+ghost use Rattle.witness.specs.Calls.{decided, passed, checkCall};
 
 // Reading a header: rows 1 to 3, which leave the state handed in; or the empty witness with that root. Any state is taken.
 pub fn begin(w: Witness, log: &[u8]) -> Beginning
@@ -31,4 +34,14 @@ pub fn read(w: Witness, log: &[u8], at: usize) -> Reading
         };
     }
     state::read_record(w, log, at)
+}
+
+// Checking a list of charges: row 40, then 50 to 57 entry by entry; else the sum of the named bonds.
+pub fn check_list(w: Witness, list: &[u8]) -> CheckAnswer
+    ensures { λ r. ⌜ checkOf r ≡ checkCall w (now (list .entry)) ⌝ }
+{
+    if !sound::is_sound(w) {
+        return CheckAnswer::Refused(Refusal::UnsoundState);
+    }
+    checker::check_list(w, list)
 }
