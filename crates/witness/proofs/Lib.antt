@@ -1,1 +1,2 @@
 pub mod Guarded
+pub mod Placed

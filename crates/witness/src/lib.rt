@@ -1,6 +1,10 @@
 // The public calls of the witness. None asks anything of its caller: what is handed in is checked.
 use checker::CheckAnswer;
+use evidence::ListAnswer;
+use finality::Backing;
+use model::Place;
 use model::Refusal;
+use model::Status;
 use state::Beginning;
 use state::Outcome;
 use state::Reading;
@@ -12,7 +16,25 @@ ghost use Rattle.model.specs.Bytes.{part};
 ghost use Rattle.model.specs.Log.{header};
 ghost use Rattle.state.specs.Reading.{IsReading, IsBeginning};
 ghost use Rattle.checker.specs.Check.{checkOf};
-ghost use Rattle.witness.specs.Calls.{decided, passed, checkCall};
+ghost use Rattle.evidence.specs.Listed.{listAnswerOf};
+ghost use Rattle.witness.specs.Calls.{decided, passed, checkCall, statusCall, supportCall, conflictCall, listCall, listBuffer};
+ghost use Rattle.witness.specs.Answers.{statusOf, supportOf, conflictOf};
+
+// What the calls answer: a value, or the refusal.
+pub enum StatusAnswer {
+    Is(Status),
+    Refused(Refusal),
+}
+
+pub enum SupportAnswer {
+    Is(Backing),
+    Refused(Refusal),
+}
+
+pub enum ConflictAnswer {
+    Is(bool),
+    Refused(Refusal),
+}
 
 // Reading a header: rows 1 to 3, which leave the state handed in; or the empty witness with that root. Any state is taken.
 pub fn begin(w: Witness, log: &[u8]) -> Beginning
@@ -44,4 +66,58 @@ pub fn check_list(w: Witness, list: &[u8]) -> CheckAnswer
         return CheckAnswer::Refused(Refusal::UnsoundState);
     }
     checker::check_list(w, list)
+}
+
+// The standing of a checkpoint: row 40, then 41 where the place isn't held.
+pub fn status(w: Witness, p: Place) -> StatusAnswer
+    ensures { λ r. ⌜ statusOf r ≡ statusCall w (p .0) ⌝ }
+{
+    if !sound::is_sound(w) {
+        return StatusAnswer::Refused(Refusal::UnsoundState);
+    }
+    let place = p.0 as usize;
+    let count = w.checkpoint_count;
+    if count <= place {
+        return StatusAnswer::Refused(Refusal::PlaceNotHeld);
+    }
+    StatusAnswer::Is(finality::status(w, p))
+}
+
+// The support of a link between two held places: the members that voted for it, their bonds, and whether it is a quorum.
+pub fn support(w: Witness, s: Place, t: Place) -> SupportAnswer
+    ensures { λ r. ⌜ supportOf r ≡ supportCall w (s .0) (t .0) ⌝ }
+{
+    if !sound::is_sound(w) {
+        return SupportAnswer::Refused(Refusal::UnsoundState);
+    }
+    let from = s.0 as usize;
+    let to = t.0 as usize;
+    let count = w.checkpoint_count;
+    if count <= from {
+        return SupportAnswer::Refused(Refusal::PlaceNotHeld);
+    }
+    if count <= to {
+        return SupportAnswer::Refused(Refusal::PlaceNotHeld);
+    }
+    SupportAnswer::Is(finality::support(w, s, t))
+}
+
+// Whether any two final checkpoints conflict.
+pub fn conflict(w: Witness) -> ConflictAnswer
+    ensures { λ r. ⌜ conflictOf r ≡ conflictCall w ⌝ }
+{
+    if !sound::is_sound(w) {
+        return ConflictAnswer::Refused(Refusal::UnsoundState);
+    }
+    ConflictAnswer::Is(finality::conflict(w))
+}
+
+// Our list of charges into a lent buffer: its length; 60 where the buffer is shorter, which is then unwritten.
+pub fn write_list(w: Witness, buf: &mut [u8]) -> ListAnswer
+    ensures { λ r. ⌜ (listAnswerOf r ≡ listCall w (now (buf .entry))) × (now (buf .exit) ≡ listBuffer w (now (buf .entry)) (listCall w (now (buf .entry)))) ⌝ }
+{
+    if !sound::is_sound(w) {
+        return ListAnswer::Refused(Refusal::UnsoundState);
+    }
+    evidence::our_list(w, buf)
 }

@@ -1,0 +1,44 @@
+-- The conflict answer of a witness, from the analysis of its model.
+use Prim.Native.Nat.{ℕ, suc, _-_}
+use native.Mathlib.Omega.{arith}
+use mathlib.Core.Path.{_≡_, refl, sym, ap, _∙_}
+use mathlib.Core.Bool.{Bool, false, _&&_, not}
+use lib.ListN.{length}
+use Rattle.model.specs.Lists.{anyBelow}
+use Rattle.model.specs.Tree.{ancestor?}
+use Rattle.model.specs.Finality.{conflicting?}
+use Rattle.tables.specs.Places.{treeOf, Falling}
+use Rattle.tables.proofs.Ancestry.{tree-tabulate}
+use Rattle.tables.proofs.Pointwise.{any-same}
+use Rattle.state.specs.declared.Witness.{Witness}
+use Rattle.state.specs.State.{checkpointIn, modelOf}
+use Rattle.state.proofs.Kept.{count-checkpoints}
+use Rattle.finality.specs.declared.Analysis.{Analysis}
+use Rattle.finality.specs.Answers.{IsAnalysis, isFinal}
+use Rattle.finality.specs.Ready.{Sound}
+use Rattle.finality.specs.Chains.{lastBelow}
+use Rattle.finality.proofs.Conflicting.{no-final, some-final}
+use Rattle.finality.proofs.Ready.{parent-in}
+use Rattle.finality.proofs.Standing.{is-final}
+
+module _ (w : Witness) (sound : Sound w) where
+  pub falling : Falling (w .«checkpoint_count») (w .parents)
+  falling i h l = omega (arith, parent-in w i l, sound .good .tree .parent i h (omega (arith, count-checkpoints w)))
+
+  -- the ancestors by the array of parents are the model's
+  same-tree : (a b : ℕ) → ancestor? (treeOf (w .«checkpoint_count») (w .parents)) a b ≡ ancestor? (modelOf w .checkpoints) a b
+  unfolding modelOf
+  same-tree a b = tree-tabulate (w .«checkpoint_count») (w .parents) (checkpointIn w) (λ i h. refl) a b
+
+  module _ (a : Analysis) (is : IsAnalysis (modelOf w) a) (last : ℕ) (at : last ≡ lastBelow (w .«checkpoint_count») (isFinal a)) where
+    found : lastBelow (length (modelOf w .checkpoints)) (isFinal a) ≡ last
+    found = ap (λ (n : ℕ). lastBelow n (isFinal a)) (count-checkpoints w) ∙ sym at
+
+    pub none-conflict : last ≡ 0 → false ≡ conflicting? (modelOf w)
+    none-conflict z = no-final (modelOf w) (sound .good) (isFinal a) (is-final (modelOf w) a is) (found ∙ z)
+
+    pub some-conflict : (last ≡ 0 → ⊥) → anyBelow (last - 1) (λ p. isFinal a p && not (ancestor? (treeOf (w .«checkpoint_count») (w .parents)) p (last - 1))) ≡ conflicting? (modelOf w)
+    some-conflict z =
+        any-same (last - 1) (λ p. isFinal a p && not (ancestor? (treeOf (w .«checkpoint_count») (w .parents)) p (last - 1))) (λ p. isFinal a p && not (ancestor? (modelOf w .checkpoints) p (last - 1)))
+        (λ p h. ap (λ (b : Bool). isFinal a p && not b) (same-tree p (last - 1)))
+        ∙ some-final (modelOf w) (sound .good) (isFinal a) (is-final (modelOf w) a is) (last - 1) (found ∙ (let e : last ≡ suc (last - 1) = omega arith in e))

@@ -1,0 +1,10 @@
+pub mod Bits
+pub mod Chains
+pub mod Table
+pub mod Weights
+pub mod Backed
+pub mod Marks
+pub mod Ready
+pub mod Standing
+pub mod Conflicting
+pub mod Answered

@@ -1,0 +1,47 @@
+// The final checkpoints of an analysis, and whether two of them conflict.
+use crate::Analysis;
+use model::Place;
+ghost use mathlib.Core.Path.{_≡_};
+ghost use mathlib.Core.Bool.{_&&_, not};
+ghost use Prim.Native.Nat.{_≤_, _<_};
+ghost use Rattle.model.specs.Lists.{anyBelow};
+ghost use Rattle.model.specs.Tree.{ancestor?};
+ghost use Rattle.tables.specs.Places.{treeOf, Falling};
+ghost use Rattle.finality.specs.Answers.{isFinal};
+ghost use Rattle.finality.specs.Chains.{lastBelow};
+
+// The greatest final place plus 1; 0 where none is final.
+pub fn last_final(a: Analysis, places: usize) -> usize
+    requires { ⌜ places ≤ 512 ⌝ }
+    ensures { λ r. ⌜ r ≡ lastBelow places (isFinal a) ⌝ }
+{
+    let mut last: usize = 0;
+    let mut p: usize = 0;
+    while p < places {
+        let fin = a.justified[p] & a.finalizing[p];
+        if fin {
+            last = p + 1;
+        }
+        p += 1;
+    }
+    last
+}
+
+// Whether some final place below f is no ancestor of f.
+pub fn strays(a: Analysis, parents: [Place; 512], places: usize, f: Place) -> bool
+    requires { ⌜ (places ≤ 512) × (f .0 < places) × Falling places parents ⌝ }
+    ensures { λ r. ⌜ r ≡ anyBelow (f .0) (λ p. isFinal a p && not (ancestor? (treeOf places parents) p (f .0))) ⌝ }
+{
+    let mut p: u16 = 0;
+    while p < f.0 {
+        let at = p as usize;
+        let fin = a.justified[at] & a.finalizing[at];
+        if fin {
+            if !tables::tree::is_ancestor(parents, places, Place(p), f) {
+                return true;
+            }
+        }
+        p += 1;
+    }
+    false
+}

@@ -1,0 +1,26 @@
+-- `witness::write_list` meets its contract: row 40, then the list writer. Assumes nothing.
+use mathlib.Core.Path.{sym, ap, _∙_}
+use borrow.Author.Needs.{needs}
+use Rattle.witness.proofs.Guarded.{passes-40, meets-40, good-state}
+use Rattle.witness.proofs.Placed.{list-40, list-is}
+use Rattle.witness.proofs.write_list.Statement.{statement}
+use Rattle.witness.proofs.write_list.Tie as tie
+
+is-sound-requires : tie.Need-is-sound-requires
+is-sound-requires c κs = search needs
+
+returns : tie.Need-returns
+returns c = let a = c .before .before .before .args in list-40 (a .w) (meets-40 _ (c .before .is-sound .ensures) (c .if1 .taken)) (a .buf .now)
+
+our-list-requires : tie.Need-our-list-requires
+our-list-requires c κs = (good-state _ (c .before .before .is-sound .ensures) (c .before .if1 .left))
+
+same-length : tie.Need-same-length
+same-length c = search needs
+
+returns-2 : tie.Need-returns-2
+returns-2 c = let a = c .before .before .before .before .before .before .before .args in list-is (a .w) (passes-40 _ (c .before .before .before .before .before .is-sound .ensures) (c .before .before .before .before .if1 .left)) (a .buf .now) (c .before .before .our-list .ensures)
+
+pub write-list-spec : {M : Type 1} → statement M
+write-list-spec =
+    tie.close (tie.spec is-sound-requires returns our-list-requires same-length returns-2)
