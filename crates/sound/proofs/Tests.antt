@@ -3,7 +3,7 @@ use Prim.Native.Nat.{ℕ, zero, suc, _+_, _*_, _<_, _≤_}
 use native.Mathlib.Omega.{arith}
 use mathlib.Core.Path.{_≡_, refl, sym, ap, ap₂, _∙_}
 use mathlib.Core.List.{List, [], _∷_}
-use mathlib.Core.Bool.{Bool, true, false, _&&_, _||_, not}
+use mathlib.Core.Bool.{Bool, true, false, _&&_, _||_, not, true≢false}
 use borrow.Author.Tests.{ltb-true, lt-ltb}
 use lib.ListN.{length, getD, take}
 use lib.Dec.{eqb, ltb, leb}
@@ -23,9 +23,13 @@ use Rattle.state.proofs.Decided.{held-id}
 use Rattle.state.proofs.Held.{members-held, ancestors-held}
 use Rattle.state.proofs.Kept.{count-members, count-checkpoints, count-votes}
 
-pub and-true : (b : Bool) → b ≡ (b && true)
+and-true : (b : Bool) → b ≡ (b && true)
 and-true true = refl
 and-true false = refl
+
+and-false : (b : Bool) → (b && false) ≡ false
+and-false true = refl
+and-false false = refl
 
 pub pos-ltb : (n : ℕ) → (n ≡ 0 → ⊥) → ltb 0 n ≡ true
 pos-ltb n h = lt-ltb 0 n (omega arith)
@@ -117,19 +121,47 @@ module _ (w : Witness) where
           (ap₂ (λ (a : Bool) (n : ℕ). a && ltb (v .source) n && ltb (v .target) n) (held-id (v .voter) (members-held w fits) refl) (count-checkpoints w))
           (ancestors-held w .ancestor (v .source) (v .target))
 
--- row 40, once each of its tests is known
-pub sound-tests : (w : Witness) {b1 b2 b3 b4 b5 b6 b7 b8 b9 b10 b11 : Bool}
-    → ltb 0 (w .«checkpoint_count») ≡ b1
-    → leb (w .«member_count») memberLimit ≡ b2
-    → leb (w .«checkpoint_count») checkpointLimit ≡ b3
-    → leb (w .«vote_count») voteLimit ≡ b4
-    → bonds? (modelOf w .members) ≡ b5
-    → eqb (heightOf (modelOf w .checkpoints) 0) rootHeight ≡ b6
-    → tree? (modelOf w .checkpoints) ≡ b7
-    → votes? (modelOf w) ≡ b8
-    → idTwice? (modelOf w .members) ≡ b9
-    → nameTwice? (modelOf w .checkpoints) ≡ b10
-    → voteTwice? (modelOf w .votes) ≡ b11
-    → wellFormed? rootHeight (modelOf w) ≡ allOf (b1 ∷ b2 ∷ b3 ∷ b4 ∷ b5 ∷ b6 ∷ b7 ∷ b8 ∷ not b9 ∷ not b10 ∷ not b11 ∷ [])
+-- a list of tests fails where one of them does
+fails : (bs : List Bool) (k : ℕ) → getD bs k true ≡ false → allOf bs ≡ false
+unfolding allOf
+fails [] k e = absurd (true≢false e)
+fails (b ∷ bs) zero e = ap (λ (x : Bool). x && allOf bs) e
+fails (b ∷ bs) (suc k) e = ap (λ (x : Bool). b && x) (fails bs k e) ∙ and-false b
+
+-- row 40's tests, in its order
+abbrev pub tests : Witness → List Bool
+tests w =
+    let m = modelOf w in
+    ltb 0 (length (m .checkpoints))
+    ∷ leb (length (m .members)) memberLimit
+    ∷ leb (length (m .checkpoints)) checkpointLimit
+    ∷ leb (length (m .votes)) voteLimit
+    ∷ bonds? (m .members)
+    ∷ eqb (heightOf (m .checkpoints) 0) rootHeight
+    ∷ tree? (m .checkpoints)
+    ∷ votes? m
+    ∷ not (idTwice? (m .members))
+    ∷ not (nameTwice? (m .checkpoints))
+    ∷ not (voteTwice? (m .votes))
+    ∷ []
+
+pub one-fails : (w : Witness) (k : ℕ) → getD (tests w) k true ≡ false → false ≡ wellFormed? rootHeight (modelOf w)
 unfolding wellFormed?
-sound-tests w e1 e2 e3 e4 e5 e6 e7 e8 e9 e10 e11 = rw (count-checkpoints w, count-members w, count-votes w, e1, e2, e3, e4, e5, e6, e7, e8, e9, e10, e11)
+one-fails w k e = sym (fails (tests w) k e)
+
+-- where all before it hold, the last decides
+pub last-decides : (w : Witness) {b : Bool}
+  → getD (tests w) 0 true ≡ true
+  → getD (tests w) 1 true ≡ true
+  → getD (tests w) 2 true ≡ true
+  → getD (tests w) 3 true ≡ true
+  → getD (tests w) 4 true ≡ true
+  → getD (tests w) 5 true ≡ true
+  → getD (tests w) 6 true ≡ true
+  → getD (tests w) 7 true ≡ true
+  → getD (tests w) 8 true ≡ true
+  → getD (tests w) 9 true ≡ true
+  → getD (tests w) 10 true ≡ b
+  → b ≡ wellFormed? rootHeight (modelOf w)
+unfolding wellFormed? allOf
+last-decides w {b} e0 e1 e2 e3 e4 e5 e6 e7 e8 e9 e10 = and-true b ∙ sym (rw (e0, e1, e2, e3, e4, e5, e6, e7, e8, e9, e10))

@@ -13,9 +13,8 @@ use Rattle.model.specs.Lists.{tabulate}
 use Rattle.model.specs.Model.{Checkpoint, checkpointAt, parentOf, noCheckpoint}
 use Rattle.model.specs.Tree.{Child, child?, reached?, ancestor?}
 use Rattle.model.proofs.Tree.{child-true}
-use Rattle.model.proofs.Lists.{lt-or-ge, not-so}
+use Rattle.model.proofs.Lists.{lt-or-ge, not-so, length-tabulate, tabulate-at}
 use Rattle.tables.specs.Places.{placeAt, treeOf, Falling}
-use Rattle.tables.proofs.Tabulated.{tabulate-length, tabulate-at}
 
 -- each checkpoint but the root has its parent at a smaller place
 abbrev pub Smaller : List Checkpoint → Type 0
@@ -127,18 +126,18 @@ module _ (cs ds : List Checkpoint) (long : length cs ≡ length ds) (same : (i :
 module _ (n : ℕ) (ps : List Place) where
   tree-length : length (treeOf n ps) ≡ n
   unfolding treeOf
-  tree-length = tabulate-length (λ i. record { name = []; parent = placeAt ps i; height = 0 }) n
+  tree-length = length-tabulate n (λ i. record { name = []; parent = placeAt ps i; height = 0 })
 
   tree-parent : (i : ℕ) → i < n → parentOf (treeOf n ps) i ≡ placeAt ps i
   unfolding treeOf checkpointAt
-  tree-parent i h = ap (λ (c : Checkpoint). c .parent) (tabulate-at (λ i. record { name = []; parent = placeAt ps i; height = 0 }) n i noCheckpoint h)
+  tree-parent i h = ap (λ (c : Checkpoint). c .parent) (tabulate-at n (λ i. record { name = []; parent = placeAt ps i; height = 0 }) noCheckpoint i h)
 
   -- any checkpoints with these parents have the same ancestors
   pub tree-tabulate : (f : ℕ → Checkpoint) → ((i : ℕ) → i < n → f i .parent ≡ placeAt ps i) → (a b : ℕ) → ancestor? (treeOf n ps) a b ≡ ancestor? (tabulate n f) a b
-  tree-tabulate f e = same-parents (treeOf n ps) (tabulate n f) (tree-length ∙ sym (tabulate-length f n)) same
+  tree-tabulate f e = same-parents (treeOf n ps) (tabulate n f) (tree-length ∙ sym (length-tabulate n f)) same
     where
       parent : (i : ℕ) → i < n → parentOf (tabulate n f) i ≡ f i .parent
-      parent i h = unfold checkpointAt in ap (λ (c : Checkpoint). c .parent) (tabulate-at f n i noCheckpoint h)
+      parent i h = unfold checkpointAt in ap (λ (c : Checkpoint). c .parent) (tabulate-at n f noCheckpoint i h)
 
       same : (i : ℕ) → i < length (treeOf n ps) → parentOf (treeOf n ps) i ≡ parentOf (tabulate n f) i
       same i h = let l : i < n = omega (arith, tree-length) in tree-parent i l ∙ sym (parent i l ∙ e i l)

@@ -3,6 +3,5 @@ pub mod Tables
 pub mod Below
 pub mod Steps
 pub mod Ancestry
-pub mod Tabulated
 pub mod Sound
 pub mod Pointwise

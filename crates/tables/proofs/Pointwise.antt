@@ -30,22 +30,3 @@ pub pair-same : (n : ℕ) (p q : ℕ → ℕ → Bool) → ((i j : ℕ) → i < 
 unfolding pairBelow
 pair-same n p q e =
     any-same n (λ j. anyBelow j (λ i. p i j)) (λ j. anyBelow j (λ i. q i j)) (λ j h. any-same j (λ i. p i j) (λ i. q i j) (λ i l. e i j l h))
-
--- the first of a list that passes stands where the first of another list does, where their tests agree
-pub first-same : {A B : Type 0} (p : A → Bool) (q : B → Bool) (d : A) (e : B) (xs : List A) (ys : List B) → length xs ≡ length ys → ((i : ℕ) → i < length xs → p (getD xs i d) ≡ q (getD ys i e)) → firstIndex p xs ≡ firstIndex q ys
-unfolding firstIndex
-first-same p q d e [] [] long same = refl
-first-same p q d e [] (y ∷ ys) long same = absurd (omega arith)
-first-same p q d e (x ∷ xs) [] long same = absurd (omega arith)
-first-same p q d e (x ∷ xs) (y ∷ ys) long same =
-    rw (same 0 (omega arith), first-same p q d e xs ys (omega arith) (λ i h. same (suc i) (omega arith)))
-
--- a search of a list made by a function of the index
-pub any-tabulate : {A : Type 0} (p : A → Bool) (f : ℕ → A) (n : ℕ) → any p (tabulate n f) ≡ anyBelow n (λ i. p (f i))
-unfolding any anyBelow tabulate
-any-tabulate {A} p f zero = refl
-any-tabulate {A} p f (suc n) = snoc (tabulate n f) (f n) ∙ ap (λ (b : Bool). b || p (f n)) (any-tabulate p f n)
-  where
-    snoc : (xs : List A) (x : A) → any p (xs ++ x ∷ []) ≡ (any p xs || p x)
-    snoc [] x = or-false (p x)
-    snoc (y ∷ xs) x = rw (snoc xs x, or-assoc)

@@ -1,7 +1,7 @@
 -- `sound::is_sound` meets its contract: its tests are row 40's, in their order. Assumes nothing.
 use Prim.Native.Nat.{ℕ, _<_, _≤_, _^_}
 use mathlib.Core.Path.{_≡_, refl, sym, ap, _∙_}
-use mathlib.Core.Bool.{Bool, true, false}
+use mathlib.Core.Bool.{true, not}
 use native.Mathlib.Omega.{arith}
 use borrow.Author.Needs.{needs}
 use borrow.Author.Tests.{eq-eqb, ne-eqb, ltb-true, le-ltb, le-leb, lt-leb, not-true, not-false}
@@ -10,14 +10,12 @@ use lib.ListN.{length, getD}
 use mir.Syntax.{w16}
 use mir.Val.{Fits}
 use Rattle.model.specs.Limits.{memberLimit, checkpointLimit, voteLimit, rootHeight}
-use Rattle.model.specs.Lists.{allOf}
-use Rattle.model.specs.Model.{heightOf}
-use Rattle.model.specs.WellFormed.{bonds?, tree?, votes?, idTwice?, nameTwice?}
-use Rattle.state.specs.State.{Typed, modelOf}
+use Rattle.state.specs.State.{Typed}
 use Rattle.state.specs.declared.Witness.{Witness}
+use Rattle.state.proofs.Kept.{count-members, count-checkpoints, count-votes}
 use Rattle.state.proofs.Store.{length-any}
 use Rattle.tables.proofs.Steps.{sound-falls}
-use Rattle.sound.proofs.Tests.{and-true, pos-ltb, bonds-are, root-is, tree-is, votes-are, ids-are, names-are, twice-is, sound-tests}
+use Rattle.sound.proofs.Tests.{pos-ltb, bonds-are, root-is, tree-is, votes-are, ids-are, names-are, twice-is, tests, one-fails, last-decides}
 use Rattle.sound.proofs.is_sound.Statement.{statement}
 use Rattle.sound.proofs.is_sound.Tie as tie
 
@@ -42,182 +40,70 @@ typed c =
       ids = λ i. let f : Fits w16 (getD (w c .ids) i 0) = search needs in f .fits;
     }
 
--- each test, where it has passed
-
-rooted : (c : tie.Else1) → ltb 0 (w (c .before) .«checkpoint_count») ≡ true
-rooted c = pos-ltb _ (c .if1 .left)
-
-few-members : (c : tie.Else2) → leb (w (c .before .before) .«member_count») memberLimit ≡ true
-few-members c = le-leb _ _ (c .if2 .left)
-
-few-checkpoints : (c : tie.Else3) → leb (w (c .before .before .before) .«checkpoint_count») checkpointLimit ≡ true
-few-checkpoints c = le-leb _ _ (c .if3 .left)
-
-few-votes : (c : tie.Else4) → leb (w (c .before .before .before .before) .«vote_count») voteLimit ≡ true
-few-votes c = le-leb _ _ (c .if4 .left)
-
-bonds : (c : tie.Else5) → bonds? (modelOf (w (c .before .before .before .before .before .before .before .before .before)) .members) ≡ true
-bonds c = bonds-are (w (c .before .before .before .before .before .before .before .before .before)) ∙ sym (c .before .bonds-in-range .ensures) ∙ not-false _ (c .if5 .left)
-
-root : (c : tie.Else6) → eqb (heightOf (modelOf (w (c .before .before .before .before .before .before .before .before .before .before .before .before .before .before)) .checkpoints) 0) rootHeight ≡ true
-root c = ap (λ h. eqb h rootHeight) (root-is (w (c .before .before .before .before .before .before .before .before .before .before .before .before .before .before)) (ltb-true 0 _ (rooted (c .before .before .before .before .before .before .before .before .before .before .before .before .before)))) ∙ eq-eqb _ _ (c .if6 .left)
-
-tree : (c : tie.Else7) → tree? (modelOf (w (c .before .before .before .before .before .before .before .before .before .before .before .before .before .before .before .before)) .checkpoints) ≡ true
-tree c = tree-is (w (c .before .before .before .before .before .before .before .before .before .before .before .before .before .before .before .before)) ∙ sym (c .before .tree-sound .ensures) ∙ not-false _ (c .if7 .left)
-
 ids-fit : (c : tie.Else4) → w (c .before .before .before .before) .«member_count» ≤ length (w (c .before .before .before .before) .ids)
 ids-fit c = omega (arith, c .before .before .if2 .left, typed (c .before .before .before .before) .sized .ids)
 
-votes : (c : tie.Else8) → votes? (modelOf (w (c .before .before .before .before .before .before .before .before .before .before .before .before .before .before .before .before .before .before .before .before .before .before .before .before .before))) ≡ true
+-- each test, where it has passed
+
+rooted : (c : tie.Else1) → getD (tests (w (c .before))) 0 true ≡ true
+rooted c = ap (ltb 0) (count-checkpoints (w (c .before))) ∙ pos-ltb _ (c .if1 .left)
+
+few-members : (c : tie.Else2) → getD (tests (w (c .before .before))) 1 true ≡ true
+few-members c = ap (λ n. leb n memberLimit) (count-members (w (c .before .before))) ∙ le-leb _ _ (c .if2 .left)
+
+few-checkpoints : (c : tie.Else3) → getD (tests (w (c .before .before .before))) 2 true ≡ true
+few-checkpoints c = ap (λ n. leb n checkpointLimit) (count-checkpoints (w (c .before .before .before))) ∙ le-leb _ _ (c .if3 .left)
+
+few-votes : (c : tie.Else4) → getD (tests (w (c .before .before .before .before))) 3 true ≡ true
+few-votes c = ap (λ n. leb n voteLimit) (count-votes (w (c .before .before .before .before))) ∙ le-leb _ _ (c .if4 .left)
+
+bonds : (c : tie.Else5) → getD (tests (w (c .before .before .before .before .before .before .before .before .before))) 4 true ≡ true
+bonds c = bonds-are (w (c .before .before .before .before .before .before .before .before .before)) ∙ sym (c .before .bonds-in-range .ensures) ∙ not-false _ (c .if5 .left)
+
+root : (c : tie.Else6) → getD (tests (w (c .before .before .before .before .before .before .before .before .before .before .before .before .before .before))) 5 true ≡ true
+root c = ap (λ h. eqb h rootHeight) (root-is (w (c .before .before .before .before .before .before .before .before .before .before .before .before .before .before)) (ltb-true 0 _ (pos-ltb _ (c .before .before .before .before .before .before .before .before .before .before .before .before .before .if1 .left)))) ∙ eq-eqb _ _ (c .if6 .left)
+
+tree : (c : tie.Else7) → getD (tests (w (c .before .before .before .before .before .before .before .before .before .before .before .before .before .before .before .before))) 6 true ≡ true
+tree c = tree-is (w (c .before .before .before .before .before .before .before .before .before .before .before .before .before .before .before .before)) ∙ sym (c .before .tree-sound .ensures) ∙ not-false _ (c .if7 .left)
+
+votes : (c : tie.Else8) → getD (tests (w (c .before .before .before .before .before .before .before .before .before .before .before .before .before .before .before .before .before .before .before .before .before .before .before .before .before))) 7 true ≡ true
 votes c = votes-are (w (c .before .before .before .before .before .before .before .before .before .before .before .before .before .before .before .before .before .before .before .before .before .before .before .before .before)) (ids-fit (c .before .before .before .before .before .before .before .before .before .before .before .before .before .before .before .before .before .before .before .before .before)) ∙ sym (c .before .votes-sound .ensures) ∙ not-false _ (c .if8 .left)
 
-ids : (c : tie.Else9) → idTwice? (modelOf (w (c .before .before .before .before .before .before .before .before .before .before .before .before .before .before .before .before .before .before .before .before .before .before .before .before .before .before .before .before .before .before)) .members) ≡ false
-ids c = ids-are (w (c .before .before .before .before .before .before .before .before .before .before .before .before .before .before .before .before .before .before .before .before .before .before .before .before .before .before .before .before .before .before)) ∙ sym (c .before .ids-twice .ensures) ∙ c .if9 .left
+ids : (c : tie.Else9) → getD (tests (w (c .before .before .before .before .before .before .before .before .before .before .before .before .before .before .before .before .before .before .before .before .before .before .before .before .before .before .before .before .before .before))) 8 true ≡ true
+ids c = ap not (ids-are (w (c .before .before .before .before .before .before .before .before .before .before .before .before .before .before .before .before .before .before .before .before .before .before .before .before .before .before .before .before .before .before)) ∙ sym (c .before .ids-twice .ensures) ∙ c .if9 .left)
 
-names : (c : tie.Else10) → nameTwice? (modelOf (w (c .before .before .before .before .before .before .before .before .before .before .before .before .before .before .before .before .before .before .before .before .before .before .before .before .before .before .before .before .before .before .before .before .before .before .before)) .checkpoints) ≡ false
-names c = names-are (w (c .before .before .before .before .before .before .before .before .before .before .before .before .before .before .before .before .before .before .before .before .before .before .before .before .before .before .before .before .before .before .before .before .before .before .before)) ∙ sym (c .before .names-twice .ensures) ∙ c .if10 .left
+names : (c : tie.Else10) → getD (tests (w (c .before .before .before .before .before .before .before .before .before .before .before .before .before .before .before .before .before .before .before .before .before .before .before .before .before .before .before .before .before .before .before .before .before .before .before))) 9 true ≡ true
+names c = ap not (names-are (w (c .before .before .before .before .before .before .before .before .before .before .before .before .before .before .before .before .before .before .before .before .before .before .before .before .before .before .before .before .before .before .before .before .before .before .before)) ∙ sym (c .before .names-twice .ensures) ∙ c .if10 .left)
 
 returns : tie.Need-returns
-unfolding allOf
-returns c = (
-  sym
-      (sound-tests (w (c .before))
-      (le-ltb 0 (w (c .before) .«checkpoint_count») (omega (arith, c .if1 .taken)))
-      refl
-      refl
-      refl
-      refl
-      refl
-      refl
-      refl
-      refl
-      refl
-      refl),
-  typed (c .before),
-)
+returns c = (one-fails (w (c .before)) 0 (ap (ltb 0) (count-checkpoints (w (c .before))) ∙ le-ltb 0 (w (c .before) .«checkpoint_count») (omega (arith, c .if1 .taken))), typed (c .before))
 
 returns-2 : tie.Need-returns-2
-unfolding allOf
-returns-2 c = (
-  sym
-      (sound-tests (w (c .before .before))
-      (rooted (c .before))
-      (lt-leb _ _ (c .if2 .taken))
-      refl
-      refl
-      refl
-      refl
-      refl
-      refl
-      refl
-      refl
-      refl),
-  typed (c .before .before),
-)
+returns-2 c = (one-fails (w (c .before .before)) 1 (ap (λ n. leb n memberLimit) (count-members (w (c .before .before))) ∙ lt-leb _ _ (c .if2 .taken)), typed (c .before .before))
 
 returns-3 : tie.Need-returns-3
-unfolding allOf
-returns-3 c = (
-  sym
-      (sound-tests (w (c .before .before .before))
-      (rooted (c .before .before))
-      (few-members (c .before))
-      (lt-leb _ _ (c .if3 .taken))
-      refl
-      refl
-      refl
-      refl
-      refl
-      refl
-      refl
-      refl),
-  typed (c .before .before .before),
-)
+returns-3 c = (one-fails (w (c .before .before .before)) 2 (ap (λ n. leb n checkpointLimit) (count-checkpoints (w (c .before .before .before))) ∙ lt-leb _ _ (c .if3 .taken)), typed (c .before .before .before))
 
 returns-4 : tie.Need-returns-4
-unfolding allOf
-returns-4 c = (
-  sym
-      (sound-tests (w (c .before .before .before .before))
-      (rooted (c .before .before .before))
-      (few-members (c .before .before))
-      (few-checkpoints (c .before))
-      (lt-leb _ _ (c .if4 .taken))
-      refl
-      refl
-      refl
-      refl
-      refl
-      refl
-      refl),
-  typed (c .before .before .before .before),
-)
+returns-4 c = (one-fails (w (c .before .before .before .before)) 3 (ap (λ n. leb n voteLimit) (count-votes (w (c .before .before .before .before))) ∙ lt-leb _ _ (c .if4 .taken)), typed (c .before .before .before .before))
 
 bonds-in-range-requires : tie.Need-bonds-in-range-requires
 bonds-in-range-requires c κs = search needs
 
 returns-5 : tie.Need-returns-5
-unfolding allOf
-returns-5 c = (
-  sym
-      (sound-tests (w (c .before .before .before .before .before .before .before .before .before))
-      (rooted (c .before .before .before .before .before .before .before .before))
-      (few-members (c .before .before .before .before .before .before .before))
-      (few-checkpoints (c .before .before .before .before .before .before))
-      (few-votes (c .before .before .before .before .before))
-      (bonds-are (w (c .before .before .before .before .before .before .before .before .before)) ∙ sym (c .before .bonds-in-range .ensures) ∙ not-true _ (c .if5 .taken))
-      refl
-      refl
-      refl
-      refl
-      refl
-      refl),
-  typed (c .before .before .before .before .before .before .before .before .before),
-)
+returns-5 c = (one-fails (w (c .before .before .before .before .before .before .before .before .before)) 4 (bonds-are (w (c .before .before .before .before .before .before .before .before .before)) ∙ sym (c .before .bonds-in-range .ensures) ∙ not-true _ (c .if5 .taken)), typed (c .before .before .before .before .before .before .before .before .before))
 
 array-copy-out-root : tie.Need-array-copy-out-root
 array-copy-out-root c = search needs
 
 returns-6 : tie.Need-returns-6
-unfolding allOf
-returns-6 c = (
-  sym
-      (sound-tests (w (c .before .before .before .before .before .before .before .before .before .before .before .before .before .before))
-      (rooted (c .before .before .before .before .before .before .before .before .before .before .before .before .before))
-      (few-members (c .before .before .before .before .before .before .before .before .before .before .before .before))
-      (few-checkpoints (c .before .before .before .before .before .before .before .before .before .before .before))
-      (few-votes (c .before .before .before .before .before .before .before .before .before .before))
-      (bonds (c .before .before .before .before .before))
-      (ap (λ h. eqb h rootHeight) (root-is (w (c .before .before .before .before .before .before .before .before .before .before .before .before .before .before)) (ltb-true 0 _ (rooted (c .before .before .before .before .before .before .before .before .before .before .before .before .before)))) ∙ ne-eqb _ _ (c .if6 .taken))
-      refl
-      refl
-      refl
-      refl
-      refl),
-  typed (c .before .before .before .before .before .before .before .before .before .before .before .before .before .before),
-)
+returns-6 c = (one-fails (w (c .before .before .before .before .before .before .before .before .before .before .before .before .before .before)) 5 (ap (λ h. eqb h rootHeight) (root-is (w (c .before .before .before .before .before .before .before .before .before .before .before .before .before .before)) (ltb-true 0 _ (pos-ltb _ (c .before .before .before .before .before .before .before .before .before .before .before .before .before .if1 .left)))) ∙ ne-eqb _ _ (c .if6 .taken)), typed (c .before .before .before .before .before .before .before .before .before .before .before .before .before .before))
 
 tree-sound-requires : tie.Need-tree-sound-requires
 tree-sound-requires c κs = search needs
 
 returns-7 : tie.Need-returns-7
-unfolding allOf
-returns-7 c = (
-  sym
-      (sound-tests (w (c .before .before .before .before .before .before .before .before .before .before .before .before .before .before .before .before))
-      (rooted (c .before .before .before .before .before .before .before .before .before .before .before .before .before .before .before))
-      (few-members (c .before .before .before .before .before .before .before .before .before .before .before .before .before .before))
-      (few-checkpoints (c .before .before .before .before .before .before .before .before .before .before .before .before .before))
-      (few-votes (c .before .before .before .before .before .before .before .before .before .before .before .before))
-      (bonds (c .before .before .before .before .before .before .before))
-      (root (c .before .before))
-      (tree-is (w (c .before .before .before .before .before .before .before .before .before .before .before .before .before .before .before .before)) ∙ sym (c .before .tree-sound .ensures) ∙ not-true _ (c .if7 .taken))
-      refl
-      refl
-      refl
-      refl),
-  typed (c .before .before .before .before .before .before .before .before .before .before .before .before .before .before .before .before),
-)
+returns-7 c = (one-fails (w (c .before .before .before .before .before .before .before .before .before .before .before .before .before .before .before .before)) 6 (tree-is (w (c .before .before .before .before .before .before .before .before .before .before .before .before .before .before .before .before)) ∙ sym (c .before .tree-sound .ensures) ∙ not-true _ (c .if7 .taken)), typed (c .before .before .before .before .before .before .before .before .before .before .before .before .before .before .before .before))
 
 votes-sound-requires : tie.Need-votes-sound-requires
 votes-sound-requires c κs =
@@ -231,90 +117,38 @@ votes-sound-requires c κs =
     )
 
 returns-8 : tie.Need-returns-8
-unfolding allOf
-returns-8 c = (
-  sym
-      (sound-tests (w (c .before .before .before .before .before .before .before .before .before .before .before .before .before .before .before .before .before .before .before .before .before .before .before .before .before))
-      (rooted (c .before .before .before .before .before .before .before .before .before .before .before .before .before .before .before .before .before .before .before .before .before .before .before .before))
-      (few-members (c .before .before .before .before .before .before .before .before .before .before .before .before .before .before .before .before .before .before .before .before .before .before .before))
-      (few-checkpoints (c .before .before .before .before .before .before .before .before .before .before .before .before .before .before .before .before .before .before .before .before .before .before))
-      (few-votes (c .before .before .before .before .before .before .before .before .before .before .before .before .before .before .before .before .before .before .before .before .before))
-      (bonds (c .before .before .before .before .before .before .before .before .before .before .before .before .before .before .before .before))
-      (root (c .before .before .before .before .before .before .before .before .before .before .before))
-      (tree (c .before .before .before .before .before .before .before .before .before))
-      (votes-are (w (c .before .before .before .before .before .before .before .before .before .before .before .before .before .before .before .before .before .before .before .before .before .before .before .before .before)) (ids-fit (c .before .before .before .before .before .before .before .before .before .before .before .before .before .before .before .before .before .before .before .before .before)) ∙ sym (c .before .votes-sound .ensures) ∙ not-true _ (c .if8 .taken))
-      refl
-      refl
-      refl),
-  typed (c .before .before .before .before .before .before .before .before .before .before .before .before .before .before .before .before .before .before .before .before .before .before .before .before .before),
-)
+returns-8 c = (one-fails (w (c .before .before .before .before .before .before .before .before .before .before .before .before .before .before .before .before .before .before .before .before .before .before .before .before .before)) 7 (votes-are (w (c .before .before .before .before .before .before .before .before .before .before .before .before .before .before .before .before .before .before .before .before .before .before .before .before .before)) (ids-fit (c .before .before .before .before .before .before .before .before .before .before .before .before .before .before .before .before .before .before .before .before .before)) ∙ sym (c .before .votes-sound .ensures) ∙ not-true _ (c .if8 .taken)), typed (c .before .before .before .before .before .before .before .before .before .before .before .before .before .before .before .before .before .before .before .before .before .before .before .before .before))
 
 ids-twice-requires : tie.Need-ids-twice-requires
 ids-twice-requires c κs = search needs
 
 returns-9 : tie.Need-returns-9
-unfolding allOf
-returns-9 c = (
-  sym
-      (sound-tests (w (c .before .before .before .before .before .before .before .before .before .before .before .before .before .before .before .before .before .before .before .before .before .before .before .before .before .before .before .before .before .before))
-      (rooted (c .before .before .before .before .before .before .before .before .before .before .before .before .before .before .before .before .before .before .before .before .before .before .before .before .before .before .before .before .before))
-      (few-members (c .before .before .before .before .before .before .before .before .before .before .before .before .before .before .before .before .before .before .before .before .before .before .before .before .before .before .before .before))
-      (few-checkpoints (c .before .before .before .before .before .before .before .before .before .before .before .before .before .before .before .before .before .before .before .before .before .before .before .before .before .before .before))
-      (few-votes (c .before .before .before .before .before .before .before .before .before .before .before .before .before .before .before .before .before .before .before .before .before .before .before .before .before .before))
-      (bonds (c .before .before .before .before .before .before .before .before .before .before .before .before .before .before .before .before .before .before .before .before .before))
-      (root (c .before .before .before .before .before .before .before .before .before .before .before .before .before .before .before .before))
-      (tree (c .before .before .before .before .before .before .before .before .before .before .before .before .before .before))
-      (votes (c .before .before .before .before .before))
-      (ids-are (w (c .before .before .before .before .before .before .before .before .before .before .before .before .before .before .before .before .before .before .before .before .before .before .before .before .before .before .before .before .before .before)) ∙ sym (c .before .ids-twice .ensures) ∙ c .if9 .taken)
-      refl
-      refl),
-  typed (c .before .before .before .before .before .before .before .before .before .before .before .before .before .before .before .before .before .before .before .before .before .before .before .before .before .before .before .before .before .before),
-)
+returns-9 c = (one-fails (w (c .before .before .before .before .before .before .before .before .before .before .before .before .before .before .before .before .before .before .before .before .before .before .before .before .before .before .before .before .before .before)) 8 (ap not (ids-are (w (c .before .before .before .before .before .before .before .before .before .before .before .before .before .before .before .before .before .before .before .before .before .before .before .before .before .before .before .before .before .before)) ∙ sym (c .before .ids-twice .ensures) ∙ c .if9 .taken)), typed (c .before .before .before .before .before .before .before .before .before .before .before .before .before .before .before .before .before .before .before .before .before .before .before .before .before .before .before .before .before .before))
 
 names-twice-requires : tie.Need-names-twice-requires
 names-twice-requires c κs = search needs
 
 returns-10 : tie.Need-returns-10
-unfolding allOf
-returns-10 c = (
-  sym
-      (sound-tests (w (c .before .before .before .before .before .before .before .before .before .before .before .before .before .before .before .before .before .before .before .before .before .before .before .before .before .before .before .before .before .before .before .before .before .before .before))
-      (rooted (c .before .before .before .before .before .before .before .before .before .before .before .before .before .before .before .before .before .before .before .before .before .before .before .before .before .before .before .before .before .before .before .before .before .before))
-      (few-members (c .before .before .before .before .before .before .before .before .before .before .before .before .before .before .before .before .before .before .before .before .before .before .before .before .before .before .before .before .before .before .before .before .before))
-      (few-checkpoints (c .before .before .before .before .before .before .before .before .before .before .before .before .before .before .before .before .before .before .before .before .before .before .before .before .before .before .before .before .before .before .before .before))
-      (few-votes (c .before .before .before .before .before .before .before .before .before .before .before .before .before .before .before .before .before .before .before .before .before .before .before .before .before .before .before .before .before .before .before))
-      (bonds (c .before .before .before .before .before .before .before .before .before .before .before .before .before .before .before .before .before .before .before .before .before .before .before .before .before .before))
-      (root (c .before .before .before .before .before .before .before .before .before .before .before .before .before .before .before .before .before .before .before .before .before))
-      (tree (c .before .before .before .before .before .before .before .before .before .before .before .before .before .before .before .before .before .before .before))
-      (votes (c .before .before .before .before .before .before .before .before .before .before))
-      (ids (c .before .before .before .before .before))
-      (names-are (w (c .before .before .before .before .before .before .before .before .before .before .before .before .before .before .before .before .before .before .before .before .before .before .before .before .before .before .before .before .before .before .before .before .before .before .before)) ∙ sym (c .before .names-twice .ensures) ∙ c .if10 .taken)
-      refl),
-  typed (c .before .before .before .before .before .before .before .before .before .before .before .before .before .before .before .before .before .before .before .before .before .before .before .before .before .before .before .before .before .before .before .before .before .before .before),
-)
+returns-10 c = (one-fails (w (c .before .before .before .before .before .before .before .before .before .before .before .before .before .before .before .before .before .before .before .before .before .before .before .before .before .before .before .before .before .before .before .before .before .before .before)) 9 (ap not (names-are (w (c .before .before .before .before .before .before .before .before .before .before .before .before .before .before .before .before .before .before .before .before .before .before .before .before .before .before .before .before .before .before .before .before .before .before .before)) ∙ sym (c .before .names-twice .ensures) ∙ c .if10 .taken)), typed (c .before .before .before .before .before .before .before .before .before .before .before .before .before .before .before .before .before .before .before .before .before .before .before .before .before .before .before .before .before .before .before .before .before .before .before))
 
 votes-twice-requires : tie.Need-votes-twice-requires
 votes-twice-requires c κs = search needs
 
 returns-11 : tie.Need-returns-11
-unfolding allOf
-returns-11 c = (
-  and-true _
-      ∙ sym
-      (sound-tests (w (c .before .before .before .before .before .before .before .before .before .before .before .before .before .before .before .before .before .before .before .before .before .before .before .before .before .before .before .before .before .before .before .before .before .before .before .before .before .before .before))
-      (rooted (c .before .before .before .before .before .before .before .before .before .before .before .before .before .before .before .before .before .before .before .before .before .before .before .before .before .before .before .before .before .before .before .before .before .before .before .before .before .before))
-      (few-members (c .before .before .before .before .before .before .before .before .before .before .before .before .before .before .before .before .before .before .before .before .before .before .before .before .before .before .before .before .before .before .before .before .before .before .before .before .before))
-      (few-checkpoints (c .before .before .before .before .before .before .before .before .before .before .before .before .before .before .before .before .before .before .before .before .before .before .before .before .before .before .before .before .before .before .before .before .before .before .before .before))
-      (few-votes (c .before .before .before .before .before .before .before .before .before .before .before .before .before .before .before .before .before .before .before .before .before .before .before .before .before .before .before .before .before .before .before .before .before .before .before))
-      (bonds (c .before .before .before .before .before .before .before .before .before .before .before .before .before .before .before .before .before .before .before .before .before .before .before .before .before .before .before .before .before .before))
-      (root (c .before .before .before .before .before .before .before .before .before .before .before .before .before .before .before .before .before .before .before .before .before .before .before .before .before))
-      (tree (c .before .before .before .before .before .before .before .before .before .before .before .before .before .before .before .before .before .before .before .before .before .before .before))
-      (votes (c .before .before .before .before .before .before .before .before .before .before .before .before .before .before))
-      (ids (c .before .before .before .before .before .before .before .before .before))
-      (names (c .before .before .before .before))
-      (twice-is (w (c .before .before .before .before .before .before .before .before .before .before .before .before .before .before .before .before .before .before .before .before .before .before .before .before .before .before .before .before .before .before .before .before .before .before .before .before .before .before .before)) ∙ sym (c .votes-twice .ensures))),
-  typed (c .before .before .before .before .before .before .before .before .before .before .before .before .before .before .before .before .before .before .before .before .before .before .before .before .before .before .before .before .before .before .before .before .before .before .before .before .before .before .before),
-)
+returns-11 c =
+    (last-decides (w (c .before .before .before .before .before .before .before .before .before .before .before .before .before .before .before .before .before .before .before .before .before .before .before .before .before .before .before .before .before .before .before .before .before .before .before .before .before .before .before))
+    (rooted (c .before .before .before .before .before .before .before .before .before .before .before .before .before .before .before .before .before .before .before .before .before .before .before .before .before .before .before .before .before .before .before .before .before .before .before .before .before .before))
+    (few-members (c .before .before .before .before .before .before .before .before .before .before .before .before .before .before .before .before .before .before .before .before .before .before .before .before .before .before .before .before .before .before .before .before .before .before .before .before .before))
+    (few-checkpoints (c .before .before .before .before .before .before .before .before .before .before .before .before .before .before .before .before .before .before .before .before .before .before .before .before .before .before .before .before .before .before .before .before .before .before .before .before))
+    (few-votes (c .before .before .before .before .before .before .before .before .before .before .before .before .before .before .before .before .before .before .before .before .before .before .before .before .before .before .before .before .before .before .before .before .before .before .before))
+    (bonds (c .before .before .before .before .before .before .before .before .before .before .before .before .before .before .before .before .before .before .before .before .before .before .before .before .before .before .before .before .before .before))
+    (root (c .before .before .before .before .before .before .before .before .before .before .before .before .before .before .before .before .before .before .before .before .before .before .before .before .before))
+    (tree (c .before .before .before .before .before .before .before .before .before .before .before .before .before .before .before .before .before .before .before .before .before .before .before))
+    (votes (c .before .before .before .before .before .before .before .before .before .before .before .before .before .before))
+    (ids (c .before .before .before .before .before .before .before .before .before))
+    (names (c .before .before .before .before))
+    (ap not (twice-is (w (c .before .before .before .before .before .before .before .before .before .before .before .before .before .before .before .before .before .before .before .before .before .before .before .before .before .before .before .before .before .before .before .before .before .before .before .before .before .before .before)) ∙ sym (c .votes-twice .ensures))),
+    typed (c .before .before .before .before .before .before .before .before .before .before .before .before .before .before .before .before .before .before .before .before .before .before .before .before .before .before .before .before .before .before .before .before .before .before .before .before .before .before .before))
 
 pub is-sound-spec : {M : Type 1} → statement M
 is-sound-spec =
