@@ -37,8 +37,9 @@ module _ (w : Witness) (sound : Sound w) where
     pub none-conflict : last ≡ 0 → false ≡ conflicting? (modelOf w)
     none-conflict z = no-final (modelOf w) (sound .good) (isFinal a) (is-final (modelOf w) a is) (found ∙ z)
 
-    pub some-conflict : (last ≡ 0 → ⊥) → anyBelow (last - 1) (λ p. isFinal a p && not (ancestor? (treeOf (w .«checkpoint_count») (w .parents)) p (last - 1))) ≡ conflicting? (modelOf w)
-    some-conflict z =
-        any-same (last - 1) (λ p. isFinal a p && not (ancestor? (treeOf (w .«checkpoint_count») (w .parents)) p (last - 1))) (λ p. isFinal a p && not (ancestor? (modelOf w .checkpoints) p (last - 1)))
+    pub some-conflict : {r : Bool} → (last ≡ 0 → ⊥) → r ≡ anyBelow (last - 1) (λ p. isFinal a p && not (ancestor? (treeOf (w .«checkpoint_count») (w .parents)) p (last - 1))) → r ≡ conflicting? (modelOf w)
+    some-conflict z e =
+        e
+        ∙ any-same (last - 1) (λ p. isFinal a p && not (ancestor? (treeOf (w .«checkpoint_count») (w .parents)) p (last - 1))) (λ p. isFinal a p && not (ancestor? (modelOf w .checkpoints) p (last - 1)))
         (λ p h. ap (λ (b : Bool). isFinal a p && not b) (same-tree p (last - 1)))
-        ∙ some-final (modelOf w) (sound .good) (isFinal a) (is-final (modelOf w) a is) (last - 1) (found ∙ (let e : last ≡ suc (last - 1) = omega arith in e))
+        ∙ some-final (modelOf w) (sound .good) (isFinal a) (is-final (modelOf w) a is) (last - 1) (found ∙ (let q : last ≡ suc (last - 1) = omega arith in q))

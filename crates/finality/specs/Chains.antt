@@ -9,6 +9,7 @@ use Rattle.model.specs.declared.Place.{Place}
 use Rattle.tables.specs.Places.{placeAt}
 use Rattle.finality.specs.declared.voters.Voters.{Voters}
 
+-- no voter
 abbrev pub nobody : Voters
 nobody = record { lo = 0; hi = 0 }
 

@@ -1,3 +1,4 @@
 pub mod Runs
 pub mod Made
 pub mod Walks
+pub mod Example

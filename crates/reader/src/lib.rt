@@ -22,6 +22,7 @@ pub struct Run {
     pub witness: Witness,
 }
 
+// Whether the reading took its record.
 fn is_taken(o: Outcome) -> bool
     ensures { λ r. ⌜ r ≡ takes (outcomeOf o) ⌝ }
 {
@@ -72,6 +73,7 @@ pub struct LogReader<'a> {
     pub at: usize,
 }
 
+// A reader of a lent log from an offset on.
 pub fn new<'a>(log: &'a [u8], at: usize) -> LogReader<'a>
     ensures { λ r. ⌜ (r .log ≡ log .entry) × (r .at ≡ at) ⌝ }
 {

@@ -151,17 +151,17 @@ one-fails w k e = sym (fails (tests w) k e)
 
 -- where all before it hold, the last decides
 pub last-decides : (w : Witness) {b : Bool}
-  → getD (tests w) 0 true ≡ true
-  → getD (tests w) 1 true ≡ true
-  → getD (tests w) 2 true ≡ true
-  → getD (tests w) 3 true ≡ true
-  → getD (tests w) 4 true ≡ true
-  → getD (tests w) 5 true ≡ true
-  → getD (tests w) 6 true ≡ true
-  → getD (tests w) 7 true ≡ true
-  → getD (tests w) 8 true ≡ true
-  → getD (tests w) 9 true ≡ true
-  → getD (tests w) 10 true ≡ b
-  → b ≡ wellFormed? rootHeight (modelOf w)
+    → getD (tests w) 0 true ≡ true
+    → getD (tests w) 1 true ≡ true
+    → getD (tests w) 2 true ≡ true
+    → getD (tests w) 3 true ≡ true
+    → getD (tests w) 4 true ≡ true
+    → getD (tests w) 5 true ≡ true
+    → getD (tests w) 6 true ≡ true
+    → getD (tests w) 7 true ≡ true
+    → getD (tests w) 8 true ≡ true
+    → getD (tests w) 9 true ≡ true
+    → getD (tests w) 10 true ≡ b
+    → b ≡ wellFormed? rootHeight (modelOf w)
 unfolding wellFormed? allOf
 last-decides w {b} e0 e1 e2 e3 e4 e5 e6 e7 e8 e9 e10 = and-true b ∙ sym (rw (e0, e1, e2, e3, e4, e5, e6, e7, e8, e9, e10))

@@ -1,7 +1,6 @@
 -- `finality::conflict` meets its contract: the greatest final place decides. Assumes nothing.
 use Prim.Native.Nat.{_≤_}
 use native.Mathlib.Omega.{arith}
-use mathlib.Core.Path.{_∙_}
 use borrow.Author.Needs.{needs}
 use Rattle.finality.specs.Answers.{isFinal}
 use Rattle.finality.proofs.Answered.{falling, none-conflict, some-conflict}
@@ -47,8 +46,7 @@ returns-2 : tie.Need-returns-2
 returns-2 c =
     let b = c .before in
     let start = b .before .before .before .before in
-    c .strays .ensures
-    ∙ some-conflict (start .args .w) (start .pre) (b .before .before .statuses .result) (b .before .before .statuses .ensures) (b .before .last-final .result) (b .before .last-final .ensures) (b .if1 .left)
+    some-conflict (start .args .w) (start .pre) (b .before .before .statuses .result) (b .before .before .statuses .ensures) (b .before .last-final .result) (b .before .last-final .ensures) (b .if1 .left) (c .strays .ensures)
 
 pub conflict-spec : {M : Type 1} → statement M
 conflict-spec =

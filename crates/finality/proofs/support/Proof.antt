@@ -1,8 +1,9 @@
 -- `finality::support` meets its contract: the voters gathered for the link are its supporters. Assumes nothing.
+use Prim.Native.Nat.{ℕ, _*_, _≤_}
 use native.Mathlib.Omega.{arith}
+use mathlib.Core.Path.{sym, subst}
 use borrow.Author.Needs.{needs}
-use lib.ListN.{getD}
-use Rattle.finality.specs.Chains.{nobody}
+use Rattle.model.specs.Limits.{bondLimit}
 use Rattle.finality.proofs.Ready.{ready-few, ready-bonds, ready-total, ready-walk, ready-support}
 use Rattle.finality.proofs.Weights.{weight-bound}
 use Rattle.finality.proofs.support.Statement.{statement}
@@ -49,13 +50,7 @@ number-requires c κs = search needs
 is-quorum-requires : tie.Need-is-quorum-requires
 is-quorum-requires c κs =
     let r = c .before .before .before .before .before .before .before .before .before .before .before .before .before .before .prepare .ensures in
-    let a = c .before .before .before .before .before .before .before .before .before .before .before .before .before .before .before .before .args in
-    omega (
-      arith,
-      c .before .weigh .ensures,
-      weight-bound (a .t1 .bonds) (a .t1 .«member_count») (getD (c .before .before .before .before .before .before .gather .result) (a .s .0) nobody) (ready-bonds r),
-      ready-total r,
-    )
+    (subst (λ (n : ℕ). n ≤ 128 * bondLimit) (sym (c .before .weigh .ensures)) (weight-bound _ _ _ (ready-bonds r)), ready-total r)
 
 returns : tie.Need-returns
 returns c =

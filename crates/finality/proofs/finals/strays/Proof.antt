@@ -61,7 +61,7 @@ fails : (c : tie.Joined2 Inv-loop μ-loop)
     → (let a = c .before .before .before .before .before .before .args in stray (a .t1) (a .parents) (a .places) (a .f .0) (c .before .before .before .before .before .loop .p)) ≡ false
 fails c =
     let a = c .before .before .before .before .before .before .args in
-    ⊎-elim
+    ⊎-elim {C = stray (a .t1) (a .parents) (a .places) (a .f .0) (c .before .before .before .before .before .loop .p) ≡ false}
     (λ w. ap₂ _&&_ (w .0 .taken) (ap not (sym (w .1 .ensures)) ∙ w .2 .left))
     (λ w. ap (λ (x : Bool). x && not (ancestor? (treeOf (a .places) (a .parents)) (c .before .before .before .before .before .loop .p) (a .f .0))) (w .left))
     (c .if2 .came)

@@ -63,7 +63,7 @@ fails : (c : tie.Joined1 Inv-loop μ-loop)
 fails c =
     let b = c .before .before .before in
     let a = b .before .before .before .args in
-    ⊎-elim
+    ⊎-elim {C = leads (a .justified .now) (a .bonds .now) (a .members) (a .total) (a .t1) (b .loop .s) ≡ false}
     (λ w. ap₂ _&&_ (w .0 .taken) (sym (w .2 .ensures) ∙ w .3 .left))
     (λ w. ap (λ (x : Bool). x && carried (a .bonds .now) (a .members) (a .total) (getD (a .t1) (b .loop .s) nobody)) (w .left))
     (c .if1 .came)

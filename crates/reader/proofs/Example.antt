@@ -1,0 +1,31 @@
+-- Reading on, computed: two members, a third whose id is held, and a cut record.
+use Prim.Native.Nat.{ℕ}
+use mathlib.Core.Path.{_≡_, refl}
+use mathlib.Core.List.{List, [], _∷_}
+use lib.ListN.{replicate}
+use Rattle.model.specs.Answer.{refused, answer, row}
+use Rattle.model.specs.Bytes.{field, beOf}
+use Rattle.model.specs.Decide.{membersFixed, bondOutOfRange, idHeld, decideMember, decideRecord, decide}
+use Rattle.model.specs.Lists.{firstIndex, tabulate}
+use Rattle.model.specs.Log.{recordSize, recordLength, decode, decodeWhole}
+use Rattle.model.specs.Model.{memberIndex}
+use Rattle.model.specs.Run.{taken, told}
+use Rattle.state.specs.State.{emptyWitness, modelOf, withMember, store}
+use Rattle.state.specs.declared.Witness.{Witness}
+use Rattle.reader.specs.Run.{Many, goOn, readMany}
+
+abbrev log : List ℕ
+log =
+    1 ∷ 0 ∷ 7 ∷ 0 ∷ 0 ∷ 0 ∷ 0 ∷ 0 ∷ 0 ∷ 0 ∷ 5
+    ∷ 1 ∷ 0 ∷ 8 ∷ 0 ∷ 0 ∷ 0 ∷ 0 ∷ 0 ∷ 0 ∷ 0 ∷ 6
+    ∷ 1 ∷ 0 ∷ 7 ∷ 0 ∷ 0 ∷ 0 ∷ 0 ∷ 0 ∷ 0 ∷ 0 ∷ 9
+    ∷ 1 ∷ []
+
+-- at most n readings, into a witness with the root alone
+abbrev many : ℕ → Many
+many n = readMany n (emptyWitness (replicate 32 0)) log 0
+
+-- it stops after the third record, which row 12 refuses; and at the limit
+stops : (many 9 .answer ≡ refused 12) × (many 9 .next ≡ 33) × (many 9 .taken ≡ 2) × (many 1 .answer ≡ answer taken) × (many 1 .next ≡ 11) × (many 1 .taken ≡ 1)
+unfolding row field beOf membersFixed bondOutOfRange idHeld decideMember decideRecord decide firstIndex tabulate recordSize recordLength decode decodeWhole memberIndex told emptyWitness modelOf withMember store goOn readMany
+stops = (refl, refl, refl, refl, refl, refl)
