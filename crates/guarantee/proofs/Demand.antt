@@ -4,9 +4,9 @@ use native.Mathlib.Omega.{arith}
 use mathlib.Core.Path.{_≡_, refl, sym, ap, ap₂, _∙_, subst, subst₂}
 use mathlib.Core.List.{List, [], _∷_, _++_, map}
 use mathlib.Core.Bool.{Bool, true, not}
-use borrow.Author.Tests.{lt-ltb}
+use borrow.Author.Tests.{lt-ltb, ltb-false}
 use lib.Dec.{ltb}
-use lib.ListN.{length, drop}
+use lib.ListN.{length, take, drop, length-take, length-drop}
 use Rattle.model.specs.Answer.{Answer, refused, answer, row}
 use Rattle.model.specs.Bytes.{AreBytes, part}
 use Rattle.model.specs.Checker.{check}
@@ -14,14 +14,17 @@ use Rattle.model.specs.Decide.{decide}
 use Rattle.model.specs.Evidence.{ourList}
 use Rattle.model.specs.Finality.{ConflictingFinals, status, conflicting?}
 use Rattle.model.specs.Limits.{rootHeight}
-use Rattle.model.specs.Lists.{All, none, each, tabulate}
+use Rattle.model.specs.Lists.{All, none, each}
+use Rattle.model.specs.Log.{header}
 use Rattle.model.specs.Model.{Model, Checkpoint, start, apply}
-use Rattle.model.specs.Run.{Event, reading, OfBytes, told, decideEvent, after, outcomes}
+use Rattle.model.specs.Run.{Event, reading, OfBytes, told, decideEvent, after, outcomes, readings}
 use Rattle.model.specs.WellFormed.{WellFormed}
+use Rattle.model.proofs.Answer.{row-passes}
+use Rattle.model.proofs.Bytes.{drop-bytes}
 use Rattle.model.proofs.Checker.{checker-exact, list-exact}
 use Rattle.model.proofs.Finality.{status-exact, conflict-exact}
-use Rattle.model.proofs.Lists.{lt-or-ge}
-use Rattle.model.proofs.Run.{start-good, event-good, run-good}
+use Rattle.model.proofs.Readings.{readings-bytes}
+use Rattle.model.proofs.Run.{start-good, event-good}
 use Rattle.model.proofs.Sound.{true-well-formed}
 use Rattle.safety.proofs.Safety.{accountable-safety, no-innocent-named}
 use Rattle.state.specs.State.{Sized, Typed, place, height, emptyWitness, modelOf, store, checkpointIn}
@@ -30,7 +33,7 @@ use Rattle.state.proofs.Kept.{Kept, reading-kept}
 use Rattle.state.proofs.Started.{empty-model, empty-typed}
 use Rattle.witness.specs.Calls.{sound?, onSound, decided, statusCall, conflictCall, listCall, listBuffer, checkCall}
 use Rattle.witness.proofs.Guarded.{on-sound}
-use Rattle.guarantee.specs.Demand3.{witnessAfter, toldOf, Guarantee, Demand3}
+use Rattle.guarantee.specs.Demand3.{witnessAfter, toldOf, Guarantee, Demand3, LogIsRun, readingsFrom, replayed}
 
 good-sound : (w : Witness) → WellFormed rootHeight (modelOf w) → sound? w ≡ true
 unfolding sound?
@@ -46,11 +49,11 @@ well-formed : (w : Witness) (b : Model) → Holds w b → WellFormed rootHeight 
 well-formed w b h = subst (WellFormed rootHeight) (sym (h .model)) (h .good)
 
 -- what the call decides is what the model decides
-decided-is : (w : Witness) (b : Model) → Holds w b → (s : List ℕ) → decided w s ≡ decide b s
+pub decided-is : (w : Witness) (b : Model) → Holds w b → (s : List ℕ) → decided w s ≡ decide b s
 unfolding decided
 decided-is w b h s = on-sound w (λ m. decide m s) (good-sound w (well-formed w b h)) ∙ ap (λ (m : Model). decide m s) (h .model)
 
-step-holds : (w : Witness) (b : Model) → Holds w b → (s : List ℕ) → AreBytes s → Holds (store w (decided w s)) (apply b (decide b s))
+pub step-holds : (w : Witness) (b : Model) → Holds w b → (s : List ℕ) → AreBytes s → Holds (store w (decided w s)) (apply b (decide b s))
 unfolding decideEvent
 step-holds w b h s bytes =
     let kept = reading-kept w (h .typed) s bytes in
@@ -72,7 +75,7 @@ run-told w b h [] none = refl
 run-told w b h (reading s ∷ es) (each bytes rest) =
     ap₂ _∷_ (ap told (decided-is w b h s)) (run-told (store w (decided w s)) (apply b (decide b s)) (step-holds w b h s bytes) es rest)
 
-start-holds : (name : List ℕ) → length name ≡ 32 → Holds (emptyWitness name) (start name)
+pub start-holds : (name : List ℕ) → length name ≡ 32 → Holds (emptyWitness name) (start name)
 start-holds name long = record { model = empty-model name long; typed = empty-typed name long; good = start-good name }
 
 -- a call's answer is the rules' answer on the model
@@ -129,3 +132,23 @@ demand-3 name long es bytes =
       none-innocent = no-innocent-named b;
       share = accountable-safety name es bytes;
     }
+
+-- a right header has a name of 32 bytes
+pub header-name : (log name : List ℕ) → header log ≡ answer name → length name ≡ 32
+unfolding header
+header-name log name e =
+    let r1 = row-passes 1 _ _ name e in
+    let r2 = row-passes 2 _ _ name (r1 .rest) in
+    let r3 = row-passes 3 _ _ name (r2 .rest) in
+    let long : 37 ≤ length log = ltb-false (length log) 37 (r1 .clear) in
+    let same : part 5 32 log ≡ name = cc (r3 .rest) in
+    sym (ap length same) ∙ length-take 32 (drop 5 log) ∙ omega (arith, length-drop 5 log, long)
+
+pub log-is-run : LogIsRun
+unfolding replayed
+log-is-run w log bytes name e =
+    let es = readingsFrom log 37 in
+    let es-bytes = readings-bytes (length (drop 37 log)) (drop 37 log) (drop-bytes 37 log bytes) in (
+      es-bytes,
+      subst (λ h. Guarantee name es (replayed w log h) (after (start name) es)) (sym e) (demand-3 name (header-name log name e) es es-bytes),
+    )

@@ -1,1 +1,2 @@
 pub mod Demand
+mod Onward

@@ -7,17 +7,20 @@ use mathlib.Core.List.{List, [], _∷_, _++_, map}
 use lib.ListN.{length, drop}
 use lib.Dec.{ltb}
 use Rattle.model.specs.Answer.{Answer, refused, answer, row}
-use Rattle.model.specs.Bytes.{AreBytes}
+use Rattle.model.specs.Bytes.{AreBytes, part}
 use Rattle.model.specs.Checker.{check}
 use Rattle.model.specs.Evidence.{ourList}
 use Rattle.model.specs.Exact.{StatusExact, ConflictExact, ListExact, CheckerExact}
 use Rattle.model.specs.Finality.{ConflictingFinals, status, conflicting?}
 use Rattle.model.specs.Lists.{All}
+use Rattle.model.specs.Log.{header}
 use Rattle.model.specs.Model.{Model, start}
-use Rattle.model.specs.Run.{Event, reading, OfBytes, Told, told, after, outcomes}
+use Rattle.model.specs.Run.{Event, reading, OfBytes, Told, told, after, outcomes, readings}
 use Rattle.safety.specs.Share.{ShareNamed, NamesViolators}
 use Rattle.state.specs.State.{emptyWitness, modelOf, store}
+use Rattle.state.specs.Reading.{startOf}
 use Rattle.state.specs.declared.Witness.{Witness}
+use Rattle.state.specs.declared.Beginning.{Beginning}
 use Rattle.witness.specs.Calls.{decided, statusCall, conflictCall, listCall, listBuffer, checkCall}
 
 -- the witness after the readings: each takes the state that the last one left (the witness of the call `read`)
@@ -58,3 +61,25 @@ pub record Guarantee (name : List ℕ) (es : List Event) (w : Witness) (b : Mode
 -- for every root name and every list of readings of bytes
 abbrev pub Demand3 : Type 0
 Demand3 = (name : List ℕ) → length name ≡ 32 → (es : List Event) → All OfBytes es → Guarantee name es (witnessAfter (emptyWitness name) es) (after (start name) es)
+
+-- the readings of a log's bytes from an offset on
+abbrev pub readingsFrom : List ℕ → ℕ → List Event
+readingsFrom log at = readings (length (drop at log)) (drop at log)
+
+-- the witness after a log is read from its header to its end or its stop; the one handed in where the header is refused
+unfoldable pub replayed : Witness → List ℕ → Answer (List ℕ) → Witness
+replayed w log (refused n) = w
+replayed w log (answer name) = witnessAfter (emptyWitness name) (readingsFrom log 37)
+
+-- what the code's `replay` gives back
+pub record IsReplay (w : Witness) (log : List ℕ) (r : Beginning) : Type 0 where
+  pub outcome : startOf (part 5 32 log) (r .outcome) ≡ header log
+  pub witness : r .witness ≡ replayed w log (header log)
+
+-- "A log read to its end or its stop is such a run": whatever witness was handed in, a log with a right header leaves one of
+-- which all that stands above holds
+abbrev pub LogIsRun : Type 0
+LogIsRun =
+    (w : Witness) (log : List ℕ) → AreBytes log → (name : List ℕ) → header log ≡ answer name
+    → let es = readingsFrom log 37 in
+    All OfBytes es × Guarantee name es (replayed w log (header log)) (after (start name) es)

@@ -1,1 +1,53 @@
-// Demand 3 as one theorem about every run: the statement is in specs/, its proof in proofs/.
+// Demand 3 as one theorem about every run: the statement is in specs/, its proof in proofs/. What stands here makes it bite
+// on code: a log read from its header to its end or its stop.
+use state::Beginning;
+use state::Start;
+use state::Witness;
+ghost use mathlib.Core.Path.{_≡_};
+ghost use Rattle.model.specs.Bytes.{part};
+ghost use Rattle.model.specs.Limits.{rootHeight};
+ghost use Rattle.model.specs.Log.{header};
+ghost use Rattle.model.specs.WellFormed.{WellFormed};
+ghost use Rattle.state.specs.State.{Typed, modelOf};
+ghost use Rattle.guarantee.specs.Demand3.{witnessAfter, readingsFrom, IsReplay};
+
+// Every record from an offset on, to the log's end or to the first that is unknown or cut, which reading does not pass.
+fn read_rest(w: Witness, log: &[u8], from: usize) -> Witness
+    requires { ⌜ Typed w × WellFormed rootHeight (modelOf w) ⌝ }
+    ensures { λ r. ⌜ r ≡ witnessAfter w (readingsFrom (now (log .entry)) from) ⌝ }
+{
+    let mut w = w;
+    let mut at = from;
+    while at < log.len() {
+        let r = state::read_record(w, log, at);
+        let next = r.next;
+        w = r.witness;
+        if next == at {
+            return w;
+        }
+        at = next;
+    }
+    w
+}
+
+// A log from its header to its end or its stop: rows 1 to 3, then every record in turn.
+pub fn replay(w: Witness, log: &[u8]) -> Beginning
+    ensures { λ r. ⌜ IsReplay w (now (log .entry)) r ⌝ }
+{
+    let begun = state::begin(w, log);
+    let start = begun.outcome;
+    let empty = begun.witness;
+    match start {
+        Start::Begun => {
+            let held = read_rest(empty, log, 37);
+            Beginning {
+                outcome: Start::Begun,
+                witness: held,
+            }
+        }
+        Start::Refused(refusal) => Beginning {
+            outcome: Start::Refused(refusal),
+            witness: empty,
+        },
+    }
+}
