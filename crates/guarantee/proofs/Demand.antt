@@ -64,7 +64,7 @@ step-holds w b h s bytes =
       good = event-good rootHeight b (h .good) (reading s) bytes;
     }
 
-run-holds : (w : Witness) (b : Model) → Holds w b → (es : List Event) → All OfBytes es → Holds (witnessAfter w es) (after b es)
+pub run-holds : (w : Witness) (b : Model) → Holds w b → (es : List Event) → All OfBytes es → Holds (witnessAfter w es) (after b es)
 unfolding witnessAfter after decideEvent
 run-holds w b h [] none = h
 run-holds w b h (reading s ∷ es) (each bytes rest) = run-holds (store w (decided w s)) (apply b (decide b s)) (step-holds w b h s bytes) es rest
@@ -79,7 +79,7 @@ pub start-holds : (name : List ℕ) → length name ≡ 32 → Holds (emptyWitne
 start-holds name long = record { model = empty-model name long; typed = empty-typed name long; good = start-good name }
 
 -- a call's answer is the rules' answer on the model
-answered : {A : Type 0} (w : Witness) (b : Model) → Holds w b → (answers : Model → Answer A) → onSound w answers ≡ answers b
+pub answered : {A : Type 0} (w : Witness) (b : Model) → Holds w b → (answers : Model → Answer A) → onSound w answers ≡ answers b
 answered w b h answers = on-sound w answers (good-sound w (well-formed w b h)) ∙ ap answers (h .model)
 
 -- ---- each field

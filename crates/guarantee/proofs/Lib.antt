@@ -1,2 +1,3 @@
 pub mod Demand
 mod Onward
+mod Asked

@@ -1,14 +1,20 @@
 // Demand 3 as one theorem about every run: the statement is in specs/, its proof in proofs/. What stands here makes it bite
 // on code: a log read from its header to its end or its stop.
+use checker::CheckAnswer;
+use evidence::ListAnswer;
+use model::Place;
 use state::Beginning;
 use state::Start;
 use state::Witness;
+use witness::ConflictAnswer;
+use witness::StatusAnswer;
 ghost use mathlib.Core.Path.{_≡_};
 ghost use Rattle.model.specs.Bytes.{part};
 ghost use Rattle.model.specs.Limits.{rootHeight};
 ghost use Rattle.model.specs.Log.{header};
 ghost use Rattle.model.specs.WellFormed.{WellFormed};
 ghost use Rattle.state.specs.State.{Typed, modelOf};
+ghost use Rattle.guarantee.specs.Book.{IsAnswers, bookBuffer};
 ghost use Rattle.guarantee.specs.Demand3.{witnessAfter, readingsFrom, IsReplay};
 
 // Every record from an offset on, to the log's end or to the first that is unknown or cut, which reading does not pass.
@@ -48,6 +54,40 @@ pub fn replay(w: Witness, log: &[u8]) -> Beginning
         Start::Refused(refusal) => Beginning {
             outcome: Start::Refused(refusal),
             witness: empty,
+        },
+    }
+}
+
+// What can be asked of a log: the standing of a place, the conflict, our list, and a list that someone handed in.
+pub struct Answers {
+    pub status: StatusAnswer,
+    pub conflict: ConflictAnswer,
+    pub ours: ListAnswer,
+    pub theirs: CheckAnswer,
+}
+
+// A log read from its header to its end or its stop, then asked; our list goes into `buf`. The witness handed in plays no part.
+pub fn ask(w: Witness, log: &[u8], p: Place, theirs: &[u8], buf: &mut [u8]) -> Answers
+    ensures { λ r. ⌜
+        IsAnswers (now (log .entry)) (p .0) (now (theirs .entry)) (now (buf .entry)) r
+        × (now (buf .exit) ≡ bookBuffer (header (now (log .entry))) (now (log .entry)) (now (buf .entry)))
+        ⌝ }
+{
+    let read = replay(w, log);
+    let start = read.outcome;
+    let held = read.witness;
+    match start {
+        Start::Begun => Answers {
+            status: witness::status(held, p),
+            conflict: witness::conflict(held),
+            ours: witness::write_list(held, buf),
+            theirs: witness::check_list(held, theirs),
+        },
+        Start::Refused(refusal) => Answers {
+            status: StatusAnswer::Refused(refusal),
+            conflict: ConflictAnswer::Refused(refusal),
+            ours: ListAnswer::Refused(refusal),
+            theirs: CheckAnswer::Refused(refusal),
         },
     }
 }
