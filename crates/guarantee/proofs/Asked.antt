@@ -1,13 +1,10 @@
 -- What is asked of the witness that a log leaves is answered by the log's book.
 use Prim.Native.Nat.{ℕ}
-use mathlib.Core.Path.{_≡_, refl, sym, ap, _∙_, subst}
-use mathlib.Core.List.{List, _++_}
-use mathlib.Core.Bool.{Bool, true, false, cond}
-use lib.Dec.{ltb}
+use mathlib.Core.Path.{_≡_, sym, ap, _∙_, subst}
+use mathlib.Core.List.{List}
 use lib.ListN.{length, drop}
-use Rattle.model.specs.Answer.{Answer, refused, answer, row}
+use Rattle.model.specs.Answer.{Answer, refused, answer}
 use Rattle.model.specs.Bytes.{AreBytes, part}
-use Rattle.model.specs.Evidence.{ourList}
 use Rattle.model.specs.Log.{header}
 use Rattle.model.specs.Model.{Model, start}
 use Rattle.model.specs.Refusals.{refusalNumber}
@@ -30,7 +27,7 @@ use Rattle.witness.specs.declared.ConflictAnswer.the-variants.{Refused as Refus
 use Rattle.guarantee.specs.Book.{book, byHeader, onBook, IsAnswers, bookBuffer}
 use Rattle.guarantee.specs.declared.Answers.{Answers}
 use Rattle.guarantee.specs.Demand3.{readingsFrom, replayed, IsReplay}
-use Rattle.guarantee.proofs.Demand.{Holds, start-holds, header-name, run-holds, answered}
+use Rattle.guarantee.proofs.Demand.{Holds, start-holds, header-name, run-holds, answered, buffer-is}
 
 module _ (w : Witness) (log : List ℕ) (r : Beginning) (is : IsReplay w log r) where
   -- the witness that a log with a right header leaves holds the book
@@ -81,21 +78,9 @@ module _ (w : Witness) (log : List ℕ) (r : Beginning) (is : IsReplay w log r) 
     }
 
   pub buffer-begun : (buffer : List ℕ) → AreBytes log → r .outcome ≡ Begun → listBuffer (r .witness) buffer (listCall (r .witness) buffer) ≡ bookBuffer (header log) log buffer
-  unfolding listCall listBuffer bookBuffer row
+  unfolding bookBuffer
   buffer-begun buffer bytes e =
-      ap (listBuffer (r .witness) buffer) (answered (r .witness) b h (λ m. row 60 (ltb (length buffer) (length (ourList m))) (answer (length (ourList m)))))
-      ∙ go (ltb (length buffer) (length (ourList b)))
-      ∙ ap (λ x. bookBuffer x log buffer) (sym (begun-is e))
-    where
-      b : Model
-      b = book (part 5 32 log) log
-
-      h : Holds (r .witness) b
-      h = holds-book bytes e
-
-      go : (t : Bool) → listBuffer (r .witness) buffer (row 60 t (answer (length (ourList b)))) ≡ cond t buffer (ourList b ++ drop (length (ourList b)) buffer)
-      go true = refl
-      go false = ap (λ (m : Model). ourList m ++ drop (length (ourList b)) buffer) (h .model)
+      buffer-is (r .witness) (book (part 5 32 log) log) (holds-book bytes e) buffer ∙ ap (λ x. bookBuffer x log buffer) (sym (begun-is e))
 
   pub buffer-refused : (buffer : List ℕ) (f : Refusal) → r .outcome ≡ RefusedHeader f → buffer ≡ bookBuffer (header log) log buffer
   unfolding bookBuffer

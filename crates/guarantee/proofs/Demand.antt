@@ -1,10 +1,10 @@
 -- Demand 3, proved: the witness after a run holds the model after the run, and every call answers by it.
-use Prim.Native.Nat.{ℕ, _+_, _*_, _<_, _≤_, _^_}
+use Prim.Native.Nat.{ℕ, _≤_}
 use native.Mathlib.Omega.{arith}
-use mathlib.Core.Path.{_≡_, refl, sym, ap, ap₂, _∙_, subst, subst₂}
+use mathlib.Core.Path.{_≡_, refl, sym, ap, ap₂, _∙_, subst}
 use mathlib.Core.List.{List, [], _∷_, _++_, map}
-use mathlib.Core.Bool.{Bool, true, not}
-use borrow.Author.Tests.{lt-ltb, ltb-false}
+use mathlib.Core.Bool.{Bool, true, false, cond}
+use borrow.Author.Tests.{ltb-false}
 use lib.Dec.{ltb}
 use lib.ListN.{length, take, drop, length-take, length-drop}
 use Rattle.model.specs.Answer.{Answer, refused, answer, row}
@@ -12,11 +12,10 @@ use Rattle.model.specs.Bytes.{AreBytes, part}
 use Rattle.model.specs.Checker.{check}
 use Rattle.model.specs.Decide.{decide}
 use Rattle.model.specs.Evidence.{ourList}
-use Rattle.model.specs.Finality.{ConflictingFinals, status, conflicting?}
 use Rattle.model.specs.Limits.{rootHeight}
 use Rattle.model.specs.Lists.{All, none, each}
 use Rattle.model.specs.Log.{header}
-use Rattle.model.specs.Model.{Model, Checkpoint, start, apply}
+use Rattle.model.specs.Model.{Model, start, apply}
 use Rattle.model.specs.Run.{Event, reading, OfBytes, told, decideEvent, after, outcomes, readings}
 use Rattle.model.specs.WellFormed.{WellFormed}
 use Rattle.model.proofs.Answer.{row-passes}
@@ -27,12 +26,13 @@ use Rattle.model.proofs.Readings.{readings-bytes}
 use Rattle.model.proofs.Run.{start-good, event-good}
 use Rattle.model.proofs.Sound.{true-well-formed}
 use Rattle.safety.proofs.Safety.{accountable-safety, no-innocent-named}
-use Rattle.state.specs.State.{Sized, Typed, place, height, emptyWitness, modelOf, store, checkpointIn}
+use Rattle.state.specs.State.{Typed, emptyWitness, modelOf, store}
 use Rattle.state.specs.declared.Witness.{Witness}
-use Rattle.state.proofs.Kept.{Kept, reading-kept}
+use Rattle.state.proofs.Kept.{reading-kept}
 use Rattle.state.proofs.Started.{empty-model, empty-typed}
-use Rattle.witness.specs.Calls.{sound?, onSound, decided, statusCall, conflictCall, listCall, listBuffer, checkCall}
-use Rattle.witness.proofs.Guarded.{on-sound}
+use Rattle.witness.specs.Calls.{sound?, onSound, decided, statusCall, supportCall, conflictCall, listCall, listBuffer, checkCall}
+use Rattle.witness.proofs.Guarded.{on-sound, sound-good}
+use Rattle.guarantee.specs.Demand2.{ByTheRules, Demand2}
 use Rattle.guarantee.specs.Demand3.{witnessAfter, toldOf, Guarantee, Demand3, LogIsRun, readingsFrom, replayed}
 
 good-sound : (w : Witness) → WellFormed rootHeight (modelOf w) → sound? w ≡ true
@@ -82,54 +82,46 @@ start-holds name long = record { model = empty-model name long; typed = empty-ty
 pub answered : {A : Type 0} (w : Witness) (b : Model) → Holds w b → (answers : Model → Answer A) → onSound w answers ≡ answers b
 answered w b h answers = on-sound w answers (good-sound w (well-formed w b h)) ∙ ap answers (h .model)
 
--- ---- each field
+-- ---- each call
 
 module _ (w : Witness) (b : Model) (h : Holds w b) where
-  status-is : (p : ℕ) → p < length (b .checkpoints) → statusCall w p ≡ answer (status b p)
-  unfolding statusCall row
-  status-is p inside =
-      answered w b h (λ m. row 41 (not (ltb p (length (m .checkpoints)))) (answer (status m p)))
-      ∙ ap (λ (t : Bool). row 41 (not t) (answer (status b p))) (lt-ltb p (length (b .checkpoints)) inside)
+  pub buffer-is : (buffer : List ℕ)
+      → listBuffer w buffer (listCall w buffer) ≡ cond (ltb (length buffer) (length (ourList b))) buffer (ourList b ++ drop (length (ourList b)) buffer)
+  unfolding listCall listBuffer row
+  buffer-is buffer =
+      ap (listBuffer w buffer) (answered w b h (λ m. row 60 (ltb (length buffer) (length (ourList m))) (answer (length (ourList m)))))
+      ∙ go (ltb (length buffer) (length (ourList b)))
+    where
+      go : (t : Bool) → listBuffer w buffer (row 60 t (answer (length (ourList b)))) ≡ cond t buffer (ourList b ++ drop (length (ourList b)) buffer)
+      go true = refl
+      go false = ap (λ (m : Model). ourList m ++ drop (length (ourList b)) buffer) (h .model)
 
-  conflict-is : conflictCall w ≡ answer (conflicting? b)
-  unfolding conflictCall
-  conflict-is = answered w b h (λ m. answer (conflicting? m))
+  by-the-rules : ByTheRules w b
+  unfolding statusCall supportCall conflictCall listCall checkCall
+  by-the-rules = record {
+    held = h .model;
+    status-answer = λ p. answered w b h _;
+    status-exact = status-exact rootHeight b (h .good);
+    support-answer = λ s t. answered w b h _;
+    conflict-answer = answered w b h _;
+    conflict-exact = conflict-exact rootHeight b (h .good);
+    list-answer = λ buffer. answered w b h _;
+    list-written = buffer-is;
+    list-exact = list-exact rootHeight b (h .good);
+    checker-answer = λ l. answered w b h (λ m. check m l);
+    checker-exact = λ l. checker-exact b l;
+    none-innocent = λ l s bytes passes. no-innocent-named b l s bytes (sym (answered w b h (λ m. check m l)) ∙ passes);
+  }
 
-  list-is : (buffer : List ℕ) → listCall w buffer ≡ row 60 (ltb (length buffer) (length (ourList b))) (answer (length (ourList b)))
-  unfolding listCall
-  list-is buffer = answered w b h (λ m. row 60 (ltb (length buffer) (length (ourList m))) (answer (length (ourList m))))
-
-  written : (buffer : List ℕ) (n : ℕ) → listCall w buffer ≡ answer n → listBuffer w buffer (listCall w buffer) ≡ ourList b ++ drop n buffer
-  unfolding listBuffer
-  written buffer n e = ap (listBuffer w buffer) e ∙ ap (λ (m : Model). ourList m ++ drop n buffer) (h .model)
-
-  untouched : (buffer : List ℕ) (n : ℕ) → listCall w buffer ≡ refused n → listBuffer w buffer (listCall w buffer) ≡ buffer
-  unfolding listBuffer
-  untouched buffer n e = ap (listBuffer w buffer) e
-
-  check-is : (l : List ℕ) → checkCall w l ≡ check b l
-  unfolding checkCall
-  check-is l = answered w b h (λ m. check m l)
+pub demand-2 : Demand2
+demand-2 w typed sound = by-the-rules w (modelOf w) (record { model = refl; typed = typed; good = sound-good w typed sound })
 
 pub demand-3 : Demand3
 demand-3 name long es bytes =
-    let w = witnessAfter (emptyWitness name) es in
-    let b = after (start name) es in
     let h = run-holds (emptyWitness name) (start name) (start-holds name long) es bytes in
     record {
       outcomes-agree = run-told (emptyWitness name) (start name) (start-holds name long) es bytes;
-      held = h .model;
-      status-answer = status-is w b h;
-      status-exact = status-exact rootHeight b (h .good);
-      conflict-answer = conflict-is w b h;
-      conflict-exact = conflict-exact rootHeight b (h .good);
-      list-answer = list-is w b h;
-      list-written = written w b h;
-      list-untouched = untouched w b h;
-      list-exact = list-exact rootHeight b (h .good);
-      checker-answer = check-is w b h;
-      checker-exact = λ l. checker-exact b l;
-      none-innocent = no-innocent-named b;
+      answers = by-the-rules (witnessAfter (emptyWitness name) es) (after (start name) es) h;
       share = accountable-safety name es bytes;
     }
 

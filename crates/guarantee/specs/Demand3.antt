@@ -5,23 +5,20 @@ use Prim.Native.Nat.{ℕ, _<_}
 use mathlib.Core.Path.{_≡_}
 use mathlib.Core.List.{List, [], _∷_, _++_, map}
 use lib.ListN.{length, drop}
-use lib.Dec.{ltb}
-use Rattle.model.specs.Answer.{Answer, refused, answer, row}
+use Rattle.model.specs.Answer.{Answer, refused, answer}
 use Rattle.model.specs.Bytes.{AreBytes, part}
-use Rattle.model.specs.Checker.{check}
-use Rattle.model.specs.Evidence.{ourList}
-use Rattle.model.specs.Exact.{StatusExact, ConflictExact, ListExact, CheckerExact}
-use Rattle.model.specs.Finality.{ConflictingFinals, status, conflicting?}
+use Rattle.model.specs.Finality.{ConflictingFinals}
 use Rattle.model.specs.Lists.{All}
 use Rattle.model.specs.Log.{header}
 use Rattle.model.specs.Model.{Model, start}
 use Rattle.model.specs.Run.{Event, reading, OfBytes, Told, told, after, outcomes, readings}
-use Rattle.safety.specs.Share.{ShareNamed, NamesViolators}
+use Rattle.safety.specs.Share.{ShareNamed}
 use Rattle.state.specs.State.{emptyWitness, modelOf, store}
 use Rattle.state.specs.Reading.{startOf}
 use Rattle.state.specs.declared.Witness.{Witness}
 use Rattle.state.specs.declared.Beginning.{Beginning}
-use Rattle.witness.specs.Calls.{decided, statusCall, conflictCall, listCall, listBuffer, checkCall}
+use Rattle.witness.specs.Calls.{decided}
+use Rattle.guarantee.specs.Demand2.{ByTheRules}
 
 -- the witness after the readings: each takes the state that the last one left (the witness of the call `read`)
 unfoldable pub witnessAfter : Witness → List Event → Witness
@@ -35,26 +32,10 @@ toldOf w (reading s ∷ es) = told (decided w s) ∷ toldOf (store w (decided w 
 
 -- `w` is the witness and `b` the model after the run
 pub record Guarantee (name : List ℕ) (es : List Event) (w : Witness) (b : Model) : Type 0 where
-  -- "each record was taken, or refused with the same number"; so 40 never occurs
+  -- "each record was taken, or refused with the same number"; 40 never occurs, as the book has no such row
   pub outcomes-agree : toldOf (emptyWitness name) es ≡ map told (outcomes (start name) es)
-  -- "the members, checkpoints and votes held are the book's, in its order"
-  pub held : modelOf w ≡ b
-  -- the standings: the call's answer, and what it means
-  pub status-answer : (p : ℕ) → p < length (b .checkpoints) → statusCall w p ≡ answer (status b p)
-  pub status-exact : (p : ℕ) → StatusExact b p
-  -- the conflict answer
-  pub conflict-answer : conflictCall w ≡ answer (conflicting? b)
-  pub conflict-exact : ConflictExact b
-  -- our list: written, whatever the buffer, unless 60 applies; and it is what the section on charges calls for
-  pub list-answer : (buffer : List ℕ) → listCall w buffer ≡ row 60 (ltb (length buffer) (length (ourList b))) (answer (length (ourList b)))
-  pub list-written : (buffer : List ℕ) (n : ℕ) → listCall w buffer ≡ answer n → listBuffer w buffer (listCall w buffer) ≡ ourList b ++ drop n buffer
-  pub list-untouched : (buffer : List ℕ) (n : ℕ) → listCall w buffer ≡ refused n → listBuffer w buffer (listCall w buffer) ≡ buffer
-  pub list-exact : ListExact b
-  -- "of all lists of charges, whoever wrote them, the checker passes exactly those .."; "so none that names a member whose
-  -- votes keep both commandments"
-  pub checker-answer : (l : List ℕ) → checkCall w l ≡ check b l
-  pub checker-exact : (l : List ℕ) → AreBytes l → CheckerExact b l
-  pub none-innocent : (l : List ℕ) (s : ℕ) → AreBytes l → check b l ≡ answer s → NamesViolators b l s
+  -- the held lists, the standings, the conflict answer, our list and the checker, a field each
+  pub answers : ByTheRules w b
   -- "If two conflicting checkpoints are final by the book, our list passes .. and names at least a third of all bonds."
   pub share : ConflictingFinals b → ShareNamed b
 

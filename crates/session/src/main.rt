@@ -1219,4 +1219,8 @@ fn main() {
     say_support(w, 1, 2);
     say_conflict(w);
     say_list(w);
+    let replayed = guarantee::replay(blank(), &LOG);
+    let whole = replayed.witness;
+    say_conflict(whole);
+    say_list(whole);
 }

@@ -1,0 +1,46 @@
+-- Demand 2, of every state that row 40 passes, however it came about: what the calls answer is what the published rules make
+-- of the model that the state holds, bonds as weights. The left sides are what the calls' contracts cite.
+use Prim.Native.Nat.{ℕ}
+use mathlib.Core.Path.{_≡_}
+use mathlib.Core.List.{List, _++_}
+use mathlib.Core.Bool.{true, cond, not, _&&_}
+use lib.Dec.{ltb}
+use lib.ListN.{length, drop}
+use Rattle.model.specs.Answer.{answer, row}
+use Rattle.model.specs.Bytes.{AreBytes}
+use Rattle.model.specs.Checker.{check}
+use Rattle.model.specs.Evidence.{ourList}
+use Rattle.model.specs.Exact.{StatusExact, ConflictExact, ListExact, CheckerExact}
+use Rattle.model.specs.Finality.{status, conflicting?}
+use Rattle.model.specs.Model.{Model}
+use Rattle.model.specs.Support.{support}
+use Rattle.safety.specs.Share.{NamesViolators}
+use Rattle.state.specs.State.{Typed, modelOf}
+use Rattle.state.specs.declared.Witness.{Witness}
+use Rattle.witness.specs.Calls.{sound?, statusCall, supportCall, conflictCall, listCall, listBuffer, checkCall}
+
+-- every call on `w` answers for the model `b`
+pub record ByTheRules (w : Witness) (b : Model) : Type 0 where
+  -- "the members, checkpoints and votes held are the book's, in its order"
+  pub held : modelOf w ≡ b
+  -- the standings: the call's answer, and what it means
+  pub status-answer : (p : ℕ) → statusCall w p ≡ row 41 (not (ltb p (length (b .checkpoints)))) (answer (status b p))
+  pub status-exact : (p : ℕ) → StatusExact b p
+  -- the support of a link
+  pub support-answer : (s t : ℕ) → supportCall w s t ≡ row 41 (not (ltb s (length (b .checkpoints)) && ltb t (length (b .checkpoints)))) (answer (support b s t))
+  -- the conflict answer
+  pub conflict-answer : conflictCall w ≡ answer (conflicting? b)
+  pub conflict-exact : ConflictExact b
+  -- our list: written, whatever the buffer, unless 60 applies, which leaves the buffer; it is what the section on charges calls for
+  pub list-answer : (buffer : List ℕ) → listCall w buffer ≡ row 60 (ltb (length buffer) (length (ourList b))) (answer (length (ourList b)))
+  pub list-written : (buffer : List ℕ)
+      → listBuffer w buffer (listCall w buffer) ≡ cond (ltb (length buffer) (length (ourList b))) buffer (ourList b ++ drop (length (ourList b)) buffer)
+  pub list-exact : ListExact b
+  -- "of all lists of charges, whoever wrote them, the checker passes exactly those .."; "so none that names a member whose
+  -- votes keep both commandments"
+  pub checker-answer : (l : List ℕ) → checkCall w l ≡ check b l
+  pub checker-exact : (l : List ℕ) → AreBytes l → CheckerExact b l
+  pub none-innocent : (l : List ℕ) (s : ℕ) → AreBytes l → checkCall w l ≡ answer s → NamesViolators b l s
+
+abbrev pub Demand2 : Type 0
+Demand2 = (w : Witness) → Typed w → sound? w ≡ true → ByTheRules w (modelOf w)
