@@ -15,7 +15,7 @@ use Rattle.model.specs.Finality.{justifiedMarks, justified?, final?, sta
 use Rattle.model.specs.Limits.{rootHeight}
 use Rattle.model.specs.Lists.{allOf, any, anyBelow, allBelow, pairBelow, firstIndex, sameBytes, tabulate}
 use Rattle.model.specs.Log.{header, recordSize, recordLength, decode, decodeWhole}
-use Rattle.model.specs.Model.{Model, Checkpoint, Vote, nothing, addMember, addCheckpoint, addVote, start, append, apply, memberAt, checkpointAt, voteAt, memberIndex, placeOf, voteHeld}
+use Rattle.model.specs.Model.{Model, Member, Checkpoint, Vote, nothing, addMember, addCheckpoint, addVote, start, append, apply, memberAt, checkpointAt, voteAt, memberIndex, placeOf, voteHeld}
 use Rattle.model.specs.Report.{report, reportBody, reportRun, summary, outcomeLines, outcomeLine, stops?, refusedLine, stoppedLine, checkpointLines, checkpointLine, statusText, memberLine, conductText, totalLine, yesNo, decimal, digits, newline}
 use Rattle.model.specs.Run.{after, decideEvent, outcomes, readings}
 use Rattle.model.specs.Slashing.{breaks?, doubleVote?, surroundVote?}
@@ -64,14 +64,19 @@ session = after (start (name "R")) (readings (length records) records)
 abbrev line : String → List ℕ
 line s = ascii s ++ newline
 
+abbrev page : String → ℕ → ℕ → Checkpoint
+page s parent height = record { name = name s; parent = parent; height = height }
+
 -- two votes of one member in a chain of checkpoints at places and heights 0 to 3
 abbrev chain : List Checkpoint
-chain =
-    record { name = name "R"; parent = 0; height = 0 }
-    ∷ record { name = name "A"; parent = 0; height = 1 }
-    ∷ record { name = name "B"; parent = 1; height = 2 }
-    ∷ record { name = name "C"; parent = 2; height = 3 }
-    ∷ []
+chain = page "R" 0 0 ∷ page "A" 0 1 ∷ page "B" 1 2 ∷ page "C" 2 3 ∷ []
+
+-- states that were handed in, not built by readings
+abbrev held : List Member → List Checkpoint → List Vote → Model
+held ms cs vs = record { members = ms; checkpoints = cs; votes = vs }
+
+abbrev firm : ℕ → ℕ → Member
+firm id bond = record { id = id; bond = bond }
 
 abbrev along : ℕ → ℕ → Vote
 along s t = record { voter = 1; source = s; target = t }
@@ -231,6 +236,19 @@ pub record RowCases : Type 0 where
   row-40 : wellFormed? rootHeight (rootAlone 129) ≡ false
   row-40-room : wellFormed? rootHeight (rootAlone 128) ≡ true
   row-40-session : wellFormed? rootHeight session ≡ true
+  row-40-small : wellFormed? rootHeight (held (firm 1 1 ∷ []) chain (along 0 1 ∷ [])) ≡ true
+  row-40-no-root : wellFormed? rootHeight (held [] [] []) ≡ false
+  row-40-no-bond : wellFormed? rootHeight (held (firm 1 0 ∷ []) chain []) ≡ false
+  row-40-bond-above : wellFormed? rootHeight (held (firm 1 1000000000001 ∷ []) chain []) ≡ false
+  row-40-root-height : wellFormed? rootHeight (held [] (page "R" 0 1 ∷ []) []) ≡ false
+  row-40-parent : wellFormed? rootHeight (held [] (page "R" 0 0 ∷ page "A" 2 2 ∷ page "B" 0 1 ∷ []) []) ≡ false
+  row-40-height : wellFormed? rootHeight (held [] (page "R" 0 0 ∷ page "A" 0 2 ∷ []) []) ≡ false
+  row-40-stranger : wellFormed? rootHeight (held (firm 2 1 ∷ []) chain (along 0 1 ∷ [])) ≡ false
+  row-40-place : wellFormed? rootHeight (held (firm 1 1 ∷ []) chain (along 0 4 ∷ [])) ≡ false
+  row-40-no-ancestor : wellFormed? rootHeight (held (firm 1 1 ∷ []) chain (along 2 1 ∷ [])) ≡ false
+  row-40-id-twice : wellFormed? rootHeight (held (firm 1 1 ∷ firm 1 2 ∷ []) chain []) ≡ false
+  row-40-name-twice : wellFormed? rootHeight (held [] (page "R" 0 0 ∷ page "R" 0 1 ∷ []) []) ≡ false
+  row-40-vote-twice : wellFormed? rootHeight (held (firm 1 1 ∷ []) chain (along 0 1 ∷ along 0 1 ∷ [])) ≡ false
   row-50 : check session (take 6 (ourList session)) ≡ refused 50
   row-50-first : check session (ascii "FFW" ++ beBytes 2 0 ++ beBytes 2 1) ≡ refused 50
   row-50-more : check session (ourList session ++ 0 ∷ []) ≡ refused 50
@@ -322,6 +340,19 @@ cases = (
     row-40 = refl;
     row-40-room = refl;
     row-40-session = refl;
+    row-40-small = refl;
+    row-40-no-root = refl;
+    row-40-no-bond = refl;
+    row-40-bond-above = refl;
+    row-40-root-height = refl;
+    row-40-parent = refl;
+    row-40-height = refl;
+    row-40-stranger = refl;
+    row-40-place = refl;
+    row-40-no-ancestor = refl;
+    row-40-id-twice = refl;
+    row-40-name-twice = refl;
+    row-40-vote-twice = refl;
     row-50 = refl;
     row-50-first = refl;
     row-50-more = refl;
