@@ -1,5 +1,6 @@
 -- Demand 2, of every state that row 40 passes, however it came about: what the calls answer is what the published rules make
--- of the model that the state holds, bonds as weights. The left sides are what the calls' contracts cite.
+-- of the model that the state holds, bonds as weights. In the answers the left sides are what the calls' contracts cite; the
+-- exact fields say of the model what those answers mean. `Typed` is what the types of the state's fields say.
 use Prim.Native.Nat.{ℕ}
 use mathlib.Core.Path.{_≡_}
 use mathlib.Core.List.{List, _++_}

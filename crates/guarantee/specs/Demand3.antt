@@ -1,6 +1,7 @@
 -- Demand 3, one statement on the whole run: for every root name and every list of readings into one witness that starts
--- empty, each meeting what the last one left. The left sides are what the public calls' contracts cite, on the witness; the
--- right sides are the rules on the reference model, document 01's book, which sees the root's name and the bytes read only.
+-- empty, each meeting what the last one left. Outcomes and answers are what the public calls' contracts cite, on the witness;
+-- the share, and what the answers mean, are said of the reference model, document 01's book, which sees the root's name and
+-- the bytes read only.
 use Prim.Native.Nat.{ℕ, _<_}
 use mathlib.Core.Path.{_≡_}
 use mathlib.Core.List.{List, [], _∷_, _++_, map}
@@ -30,11 +31,11 @@ unfoldable pub toldOf : Witness → List Event → List (Answer Told)
 toldOf w [] = []
 toldOf w (reading s ∷ es) = told (decided w s) ∷ toldOf (store w (decided w s)) es
 
--- `w` is the witness and `b` the model after the run
+-- `w` is the witness and `b` the model after the run, as Demand3 and LogIsRun below have them
 pub record Guarantee (name : List ℕ) (es : List Event) (w : Witness) (b : Model) : Type 0 where
   -- "each record was taken, or refused with the same number"; 40 never occurs, as the book has no such row
   pub outcomes-agree : toldOf (emptyWitness name) es ≡ map told (outcomes (start name) es)
-  -- the held lists, the standings, the conflict answer, our list and the checker, a field each
+  -- the held lists, the standings, the support, the conflict answer, our list and the checker: the fields of ByTheRules
   pub answers : ByTheRules w b
   -- "If two conflicting checkpoints are final by the book, our list passes .. and names at least a third of all bonds."
   pub share : ConflictingFinals b → ShareNamed b

@@ -1,5 +1,5 @@
-// Demand 3 as one theorem about every run: the statement is in specs/, its proof in proofs/. What stands here makes it bite
-// on code: a log read from its header to its end or its stop.
+// Demand 3 as one theorem about every run: the statement is in specs/, its proof in proofs/. What stands here ties its
+// answers to code: a log read from its header to its end or its stop. What each record came to is not given back here.
 use checker::CheckAnswer;
 use evidence::ListAnswer;
 use model::Place;
@@ -36,7 +36,8 @@ fn read_rest(w: Witness, log: &[u8], from: usize) -> Witness
     w
 }
 
-// A log from its header to its end or its stop: rows 1 to 3, then every record in turn.
+// A log from its header to its end or its stop: rows 1 to 3, then every record in turn. A stop by row 4 or 5 is not told
+// apart from the end.
 pub fn replay(w: Witness, log: &[u8]) -> Beginning
     ensures { λ r. ⌜ IsReplay w (now (log .entry)) r ⌝ }
 {
