@@ -16,7 +16,7 @@ use Rattle.model.specs.Limits.{rootHeight}
 use Rattle.model.specs.Lists.{allOf, any, anyBelow, allBelow, pairBelow, firstIndex, sameBytes, tabulate}
 use Rattle.model.specs.Log.{header, recordSize, recordLength, decode, decodeWhole}
 use Rattle.model.specs.Model.{Model, Member, Checkpoint, Vote, nothing, addMember, addCheckpoint, addVote, start, append, apply, memberAt, checkpointAt, voteAt, memberIndex, placeOf, voteHeld}
-use Rattle.model.specs.Report.{report, reportBody, reportRun, summary, outcomeLines, outcomeLine, stops?, refusedLine, stoppedLine, checkpointLines, checkpointLine, statusText, memberLine, conductText, totalLine, yesNo, decimal, digits, newline}
+use Rattle.model.specs.Report.{report, reportBody, reportRun, summary, outcomeLines, outcomeLine, stops?, refusedLine, stoppedLine, checkpointLines, checkpointLine, checkpointText, statusText, memberLine, memberText, conductText, totalLine, totalText, yesNo, decimal, digits, newline}
 use Rattle.model.specs.Run.{after, decideEvent, outcomes, readings}
 use Rattle.model.specs.Slashing.{breaks?, doubleVote?, surroundVote?}
 use Rattle.model.specs.Support.{count, sum, quorum, support, supports, link?}
@@ -266,8 +266,8 @@ unfolding
     row allOf any anyBelow allBelow pairBelow firstIndex tabulate sameBytes beOf beBytes field ascii start append apply memberAt checkpointAt voteAt memberIndex placeOf voteHeld
     child? reached? ancestor? conflict? header recordSize recordLength decode decodeWhole decide decideRecord decideMember decideCheckpoint decideVote decidePlaces heightsAgree bondOutOfRange
     membersFixed idHeld nameHeld decideEvent after outcomes readings count sum supports quorum support link? justifiedMarks justified? final? status conflicting?
-    doubleVote? surroundVote? breaks? conductFrom conduct broken? violator? insertById byId digits decimal newline statusText checkpointLine checkpointLines
-    conductText memberLine yesNo totalLine summary stops? stoppedLine refusedLine outcomeLine outcomeLines reportRun reportBody report flatMap
+    doubleVote? surroundVote? breaks? conductFrom conduct broken? violator? insertById byId digits decimal newline statusText checkpointText checkpointLine checkpointLines
+    conductText memberText memberLine yesNo totalText totalLine summary stops? stoppedLine refusedLine outcomeLine outcomeLines reportRun reportBody report flatMap
     entries ownVote? checkFrom check chargeOf charges listBytes entryBytes ourList bondOf wellFormed? bonds? tree? vote? votes? idTwice? nameTwice? voteTwice?
 cases = (
   record {
