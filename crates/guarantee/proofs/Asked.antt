@@ -1,20 +1,20 @@
 -- What is asked of the witness that a log leaves is answered by the log's book.
-use Prim.Native.Nat.{ℕ}
+use Prim.Native.Nat.{ℕ, _+_}
+use native.Mathlib.Omega.{arith}
 use mathlib.Core.Path.{_≡_, sym, ap, _∙_, subst}
 use mathlib.Core.List.{List}
-use lib.ListN.{length, drop}
+use lib.ListN.{length}
 use Rattle.model.specs.Answer.{Answer, refused, answer}
 use Rattle.model.specs.Bytes.{AreBytes, part}
 use Rattle.model.specs.Log.{header}
 use Rattle.model.specs.Model.{Model, start}
 use Rattle.model.specs.Refusals.{refusalNumber}
+use Rattle.model.specs.Run.{nothingLeft}
 use Rattle.model.specs.declared.Refusal.{Refusal}
-use Rattle.model.proofs.Bytes.{drop-bytes}
-use Rattle.model.proofs.Readings.{readings-bytes}
-use Rattle.state.specs.Reading.{startOf}
+use Rattle.state.specs.Reading.{outcomeOf, startOf}
 use Rattle.state.specs.State.{emptyWitness}
 use Rattle.state.specs.declared.Witness.{Witness}
-use Rattle.state.specs.declared.Beginning.{Beginning}
+use Rattle.state.specs.declared.Outcome.the-variants.{Refused}
 use Rattle.state.specs.declared.Start.the-variants.{Begun, Refused as RefusedHeader}
 use Rattle.checker.specs.Check.{checkOf}
 use Rattle.checker.specs.declared.CheckAnswer.the-variants.{Refused as RefusedCheck}
@@ -24,64 +24,91 @@ use Rattle.witness.specs.Answers.{statusOf, conflictOf}
 use Rattle.witness.specs.Calls.{onSound, statusCall, conflictCall, listCall, listBuffer, checkCall}
 use Rattle.witness.specs.declared.StatusAnswer.the-variants.{Refused as RefusedStatus}
 use Rattle.witness.specs.declared.ConflictAnswer.the-variants.{Refused as RefusedConflict}
-use Rattle.guarantee.specs.Book.{book, byHeader, onBook, IsAnswers, bookBuffer}
+use Rattle.guarantee.specs.Book.{book, byHeader, onBook, bookLast, recordsRead, IsAnswers, bookBuffer}
+use Rattle.guarantee.specs.LogRead.{Reads, readOf, lastTold, recordsOf, replayed, IsReplay}
 use Rattle.guarantee.specs.declared.Answers.{Answers}
-use Rattle.guarantee.specs.Demand3.{readingsFrom, replayed, IsReplay}
-use Rattle.guarantee.proofs.Demand.{Holds, start-holds, header-name, run-holds, answered, buffer-is}
+use Rattle.guarantee.specs.declared.Replayed.{Replayed}
+use Rattle.guarantee.proofs.Demand.{Holds, start-holds, header-name, records-bytes, run-holds, run-told, answered, buffer-is}
 
-module _ (w : Witness) (log : List ℕ) (r : Beginning) (is : IsReplay w log r) where
+module _ (w : Witness) (log : List ℕ) (limit : ℕ) (r : Replayed) (is : IsReplay w log limit r) where
   -- the witness that a log with a right header leaves holds the book
-  begun-is : r .outcome ≡ Begun → header log ≡ answer (part 5 32 log)
-  begun-is e = sym (is .outcome) ∙ ap (startOf (part 5 32 log)) e
+  begun-is : r .start ≡ Begun → header log ≡ answer (part 5 32 log)
+  begun-is e = sym (is .start) ∙ ap (startOf (part 5 32 log)) e
 
-  refused-is : (f : Refusal) → r .outcome ≡ RefusedHeader f → refused (refusalNumber f) ≡ header log
-  refused-is f e = sym (ap (startOf (part 5 32 log)) e) ∙ is .outcome
+  refused-is : (f : Refusal) → r .start ≡ RefusedHeader f → refused (refusalNumber f) ≡ header log
+  refused-is f e = sym (ap (startOf (part 5 32 log)) e) ∙ is .start
 
-  holds-book : AreBytes log → r .outcome ≡ Begun → Holds (r .witness) (book (part 5 32 log) log)
+  abbrev held : Witness
+  held = r .read .witness
+
+  abbrev name : List ℕ
+  name = part 5 32 log
+
+  read-is : r .start ≡ Begun → readOf (r .read) ≡ replayed w log limit (answer name)
+  read-is e = is .read ∙ ap (replayed w log limit) (begun-is e)
+
+  empty-holds : r .start ≡ Begun → Holds (emptyWitness name) (start name)
+  empty-holds e = start-holds name (header-name log name (begun-is e))
+
+  holds-book : AreBytes log → r .start ≡ Begun → Holds held (book limit log name)
   unfolding replayed
   holds-book bytes e =
-      let name = part 5 32 log in
-      let es-bytes = readings-bytes (length (drop 37 log)) (drop 37 log) (drop-bytes 37 log bytes) in
-      let long = header-name log name (begun-is e) in
-      subst (λ v. Holds v (book name log)) (sym (is .witness ∙ ap (replayed w log) (begun-is e)))
-      (run-holds (emptyWitness name) (start name) (start-holds name long) (readingsFrom log 37) es-bytes)
+      subst (λ (v : Reads). Holds (v .witness) (book limit log name)) (sym (read-is e)) (run-holds (emptyWitness name) (start name) (empty-holds e) (recordsOf limit log) (records-bytes limit log bytes))
 
-  pub asked : {A : Type 0} (answers : Model → Answer A) → AreBytes log → r .outcome ≡ Begun → onSound (r .witness) answers ≡ onBook log answers
+  pub asked : {A : Type 0} (answers : Model → Answer A) → AreBytes log → r .start ≡ Begun → onSound held answers ≡ onBook limit log answers
   unfolding byHeader
-  asked answers bytes e =
-      answered (r .witness) (book (part 5 32 log) log) (holds-book bytes e) answers ∙ ap (λ h. byHeader h log answers) (sym (begun-is e))
+  asked answers bytes e = answered held (book limit log name) (holds-book bytes e) answers ∙ ap (λ h. byHeader h (λ n. answers (book limit log n))) (sym (begun-is e))
 
-  pub refused-asked : {A : Type 0} (answers : Model → Answer A) (f : Refusal) → r .outcome ≡ RefusedHeader f → refused (refusalNumber f) ≡ onBook log answers
+  -- what the last record came to, by the book
+  last-asked : AreBytes log → r .start ≡ Begun → outcomeOf (r .read .last) ≡ byHeader (header log) (bookLast limit log)
+  unfolding byHeader replayed
+  last-asked bytes e =
+      ap (λ (v : Reads). v .last) (read-is e)
+      ∙ ap (lastTold (answer nothingLeft)) (run-told (emptyWitness name) (start name) (empty-holds e) (recordsOf limit log) (records-bytes limit log bytes))
+      ∙ ap (λ h. byHeader h (bookLast limit log)) (sym (begun-is e))
+
+  records-asked : r .start ≡ Begun → r .read .records ≡ recordsRead (header log) limit log
+  unfolding recordsRead replayed
+  records-asked e =
+      let none-before : 0 + length (recordsOf limit log) ≡ length (recordsOf limit log) = omega arith in
+      ap (λ (v : Reads). v .records) (read-is e) ∙ none-before ∙ ap (λ h. recordsRead h limit log) (sym (begun-is e))
+
+  refused-asked : {A : Type 0} (answers : List ℕ → Answer A) (f : Refusal) → r .start ≡ RefusedHeader f → refused (refusalNumber f) ≡ byHeader (header log) answers
   unfolding byHeader
-  refused-asked answers f e = ap (λ h. byHeader h log answers) (refused-is f e)
+  refused-asked answers f e = ap (λ h. byHeader h answers) (refused-is f e)
 
   -- ---- all the answers, and the buffer
 
   module _ (p : ℕ) (list buffer : List ℕ) where
-    pub answers-begun : AreBytes log → r .outcome ≡ Begun → (a : Answers) → statusOf (a .status) ≡ statusCall (r .witness) p → conflictOf (a .conflict) ≡ conflictCall (r .witness)
-        → listAnswerOf (a .ours) ≡ listCall (r .witness) buffer → checkOf (a .theirs) ≡ checkCall (r .witness) list → IsAnswers log p list buffer a
+    pub answers-begun : AreBytes log → r .start ≡ Begun → (a : Answers) → a .last ≡ r .read .last → a .records ≡ r .read .records → statusOf (a .status) ≡ statusCall held p
+        → conflictOf (a .conflict) ≡ conflictCall held → listAnswerOf (a .ours) ≡ listCall held buffer → checkOf (a .theirs) ≡ checkCall held list → IsAnswers log limit p list buffer a
     unfolding statusCall conflictCall listCall checkCall
-    answers-begun bytes e a s c o t = record {
+    answers-begun bytes e a l n s c o t = record {
+      last = ap outcomeOf l ∙ last-asked bytes e;
+      records = n ∙ records-asked e;
       status = s ∙ asked _ bytes e;
       conflict = c ∙ asked _ bytes e;
       ours = o ∙ asked _ bytes e;
       theirs = t ∙ asked _ bytes e;
     }
 
-    pub answers-refused : (f : Refusal) → r .outcome ≡ RefusedHeader f
-        → IsAnswers log p list buffer (record { status = RefusedStatus f; conflict = RefusedConflict f; ours = RefusedList f; theirs = RefusedCheck f })
+    pub answers-refused : (f : Refusal) → r .start ≡ RefusedHeader f
+        → IsAnswers log limit p list buffer (record { last = Refused f; records = 0; status = RefusedStatus f; conflict = RefusedConflict f; ours = RefusedList f; theirs = RefusedCheck f })
+    unfolding recordsRead
     answers-refused f e = record {
+      last = refused-asked _ f e;
+      records = ap (λ h. recordsRead h limit log) (refused-is f e);
       status = refused-asked _ f e;
       conflict = refused-asked _ f e;
       ours = refused-asked _ f e;
       theirs = refused-asked _ f e;
     }
 
-  pub buffer-begun : (buffer : List ℕ) → AreBytes log → r .outcome ≡ Begun → listBuffer (r .witness) buffer (listCall (r .witness) buffer) ≡ bookBuffer (header log) log buffer
+  pub buffer-begun : (buffer : List ℕ) → AreBytes log → r .start ≡ Begun → listBuffer held buffer (listCall held buffer) ≡ bookBuffer (header log) limit log buffer
   unfolding bookBuffer
   buffer-begun buffer bytes e =
-      buffer-is (r .witness) (book (part 5 32 log) log) (holds-book bytes e) buffer ∙ ap (λ x. bookBuffer x log buffer) (sym (begun-is e))
+      buffer-is held (book limit log name) (holds-book bytes e) buffer ∙ ap (λ x. bookBuffer x limit log buffer) (sym (begun-is e))
 
-  pub buffer-refused : (buffer : List ℕ) (f : Refusal) → r .outcome ≡ RefusedHeader f → buffer ≡ bookBuffer (header log) log buffer
+  pub buffer-refused : (buffer : List ℕ) (f : Refusal) → r .start ≡ RefusedHeader f → buffer ≡ bookBuffer (header log) limit log buffer
   unfolding bookBuffer
-  buffer-refused buffer f e = ap (λ x. bookBuffer x log buffer) (refused-is f e)
+  buffer-refused buffer f e = ap (λ x. bookBuffer x limit log buffer) (refused-is f e)

@@ -16,13 +16,13 @@ use Rattle.model.specs.Limits.{rootHeight}
 use Rattle.model.specs.Lists.{All, none, each}
 use Rattle.model.specs.Log.{header}
 use Rattle.model.specs.Model.{Model, start, apply}
-use Rattle.model.specs.Run.{Event, reading, OfBytes, told, decideEvent, after, outcomes, readings}
+use Rattle.model.specs.Run.{Event, reading, OfBytes, told, decideEvent, after, outcomes}
 use Rattle.model.specs.WellFormed.{WellFormed}
 use Rattle.model.proofs.Answer.{row-passes}
 use Rattle.model.proofs.Bytes.{drop-bytes}
 use Rattle.model.proofs.Checker.{checker-exact, list-exact}
 use Rattle.model.proofs.Finality.{status-exact, conflict-exact}
-use Rattle.model.proofs.Readings.{readings-bytes}
+use Rattle.model.proofs.Readings.{readings-bound, readings-bytes}
 use Rattle.model.proofs.Run.{start-good, event-good}
 use Rattle.model.proofs.Sound.{true-well-formed}
 use Rattle.safety.proofs.Safety.{accountable-safety, no-innocent-named}
@@ -33,7 +33,8 @@ use Rattle.state.proofs.Started.{empty-model, empty-typed}
 use Rattle.witness.specs.Calls.{sound?, onSound, decided, statusCall, supportCall, conflictCall, listCall, listBuffer, checkCall}
 use Rattle.witness.proofs.Guarded.{on-sound, sound-good}
 use Rattle.guarantee.specs.Demand2.{ByTheRules, Demand2}
-use Rattle.guarantee.specs.Demand3.{witnessAfter, toldOf, Guarantee, Demand3, LogIsRun, readingsFrom, replayed}
+use Rattle.guarantee.specs.Demand3.{witnessAfter, toldOf, Guarantee, Demand3}
+use Rattle.guarantee.specs.LogRead.{recordsOf, replayed, LogIsRun, LogIsWhole}
 
 good-sound : (w : Witness) → WellFormed rootHeight (modelOf w) → sound? w ≡ true
 unfolding sound?
@@ -69,7 +70,7 @@ unfolding witnessAfter after decideEvent
 run-holds w b h [] none = h
 run-holds w b h (reading s ∷ es) (each bytes rest) = run-holds (store w (decided w s)) (apply b (decide b s)) (step-holds w b h s bytes) es rest
 
-run-told : (w : Witness) (b : Model) → Holds w b → (es : List Event) → All OfBytes es → toldOf w es ≡ map told (outcomes b es)
+pub run-told : (w : Witness) (b : Model) → Holds w b → (es : List Event) → All OfBytes es → toldOf w es ≡ map told (outcomes b es)
 unfolding toldOf outcomes decideEvent
 run-told w b h [] none = refl
 run-told w b h (reading s ∷ es) (each bytes rest) =
@@ -136,11 +137,18 @@ header-name log name e =
     let same : part 5 32 log ≡ name = cc (r3 .rest) in
     sym (ap length same) ∙ length-take 32 (drop 5 log) ∙ omega (arith, length-drop 5 log, long)
 
+pub records-bytes : (limit : ℕ) (log : List ℕ) → AreBytes log → All OfBytes (recordsOf limit log)
+records-bytes limit log bytes = readings-bytes limit (drop 37 log) (drop-bytes 37 log bytes)
+
 pub log-is-run : LogIsRun
 unfolding replayed
-log-is-run w log bytes name e =
-    let es = readingsFrom log 37 in
-    let es-bytes = readings-bytes (length (drop 37 log)) (drop 37 log) (drop-bytes 37 log bytes) in (
+log-is-run w log bytes limit name e =
+    let es = recordsOf limit log in
+    let es-bytes = records-bytes limit log bytes in (
       es-bytes,
-      subst (λ h. Guarantee name es (replayed w log h) (after (start name) es)) (sym e) (demand-3 name (header-name log name e) es es-bytes),
+      subst (λ h. Guarantee name es (replayed w log limit h .witness) (after (start name) es)) (sym e) (demand-3 name (header-name log name e) es es-bytes),
     )
+
+pub log-is-whole : LogIsWhole
+log-is-whole log limit long =
+    readings-bound limit (length log) (drop 37 log) (omega (arith, length-drop 37 log)) (omega (arith, length-drop 37 log))

@@ -1,8 +1,8 @@
--- The book of a log: the reference model after every record from the header to the log's end or its stop. What is asked of
--- a log is answered by its book; a header that is refused is the answer.
+-- The book of a log: the reference model after its records, to the log's end or its stop, or after the first so many. What is
+-- asked of a log is answered by its book; a header that is refused is the answer.
 use Prim.Native.Nat.{ℕ}
 use mathlib.Core.Path.{_≡_}
-use mathlib.Core.List.{List, _++_}
+use mathlib.Core.List.{List, _++_, map}
 use mathlib.Core.Bool.{cond, not}
 use lib.Dec.{ltb}
 use lib.ListN.{length, drop}
@@ -12,34 +12,47 @@ use Rattle.model.specs.Evidence.{ourList}
 use Rattle.model.specs.Finality.{status, conflicting?}
 use Rattle.model.specs.Log.{header}
 use Rattle.model.specs.Model.{Model, start}
-use Rattle.model.specs.Run.{after}
+use Rattle.model.specs.Run.{Told, nothingLeft, told, after, outcomes}
 use Rattle.checker.specs.Check.{checkOf}
 use Rattle.evidence.specs.Listed.{listAnswerOf}
+use Rattle.state.specs.Reading.{outcomeOf}
 use Rattle.witness.specs.Answers.{statusOf, conflictOf}
 use Rattle.guarantee.specs.declared.Answers.{Answers}
-use Rattle.guarantee.specs.Demand3.{readingsFrom}
+use Rattle.guarantee.specs.LogRead.{lastTold, recordsOf}
 
-abbrev pub book : List ℕ → List ℕ → Model
-book name log = after (start name) (readingsFrom log 37)
+abbrev pub book : ℕ → List ℕ → List ℕ → Model
+book limit log name = after (start name) (recordsOf limit log)
 
-unfoldable pub byHeader : {A : Type 0} → Answer (List ℕ) → List ℕ → (Model → Answer A) → Answer A
-byHeader (refused n) log answers = refused n
-byHeader (answer name) log answers = answers (book name log)
+unfoldable pub byHeader : {A : Type 0} → Answer (List ℕ) → (List ℕ → Answer A) → Answer A
+byHeader (refused n) answers = refused n
+byHeader (answer name) answers = answers name
 
-abbrev pub onBook : {A : Type 0} → List ℕ → (Model → Answer A) → Answer A
-onBook log answers = byHeader (header log) log answers
+abbrev pub onBook : {A : Type 0} → ℕ → List ℕ → (Model → Answer A) → Answer A
+onBook limit log answers = byHeader (header log) (λ name. answers (book limit log name))
 
--- the answers of the book: the standing of the checkpoint at a place, whether two final checkpoints conflict, the length of our
--- list where the buffer has room for it, and whether a list that someone handed in passes, with the bonds that it names
-pub record IsAnswers (log : List ℕ) (p : ℕ) (list buffer : List ℕ) (r : Answers) : Type 0 where
-  pub status : statusOf (r .status) ≡ onBook log (λ b. row 41 (not (ltb p (length (b .checkpoints)))) (answer (status b p)))
-  pub conflict : conflictOf (r .conflict) ≡ onBook log (λ b. answer (conflicting? b))
-  pub ours : listAnswerOf (r .ours) ≡ onBook log (λ b. row 60 (ltb (length buffer) (length (ourList b))) (answer (length (ourList b))))
-  pub theirs : checkOf (r .theirs) ≡ onBook log (λ b. check b list)
+-- the book's outcome for the last record read
+abbrev pub bookLast : ℕ → List ℕ → List ℕ → Answer Told
+bookLast limit log name = lastTold (answer nothingLeft) (map told (outcomes (start name) (recordsOf limit log)))
+
+-- how many records are read: none where the header is refused
+unfoldable pub recordsRead : Answer (List ℕ) → ℕ → List ℕ → ℕ
+recordsRead (refused n) limit log = 0
+recordsRead (answer name) limit log = length (recordsOf limit log)
+
+-- the answers of the book: its outcome for the last record, how many were read, the standing of the checkpoint at a place,
+-- whether two final checkpoints conflict, the length of our list where the buffer has room for it, and whether a list that
+-- someone handed in passes, with the bonds that it names
+pub record IsAnswers (log : List ℕ) (limit p : ℕ) (list buffer : List ℕ) (r : Answers) : Type 0 where
+  pub last : outcomeOf (r .last) ≡ byHeader (header log) (bookLast limit log)
+  pub records : r .records ≡ recordsRead (header log) limit log
+  pub status : statusOf (r .status) ≡ onBook limit log (λ b. row 41 (not (ltb p (length (b .checkpoints)))) (answer (status b p)))
+  pub conflict : conflictOf (r .conflict) ≡ onBook limit log (λ b. answer (conflicting? b))
+  pub ours : listAnswerOf (r .ours) ≡ onBook limit log (λ b. row 60 (ltb (length buffer) (length (ourList b))) (answer (length (ourList b))))
+  pub theirs : checkOf (r .theirs) ≡ onBook limit log (λ b. check b list)
 
 -- the buffer: our list and then what was there; as it was where the header is refused or there is no room
-unfoldable pub bookBuffer : Answer (List ℕ) → List ℕ → List ℕ → List ℕ
-bookBuffer (refused n) log buffer = buffer
-bookBuffer (answer name) log buffer =
-    let list = ourList (book name log) in
+unfoldable pub bookBuffer : Answer (List ℕ) → ℕ → List ℕ → List ℕ → List ℕ
+bookBuffer (refused n) limit log buffer = buffer
+bookBuffer (answer name) limit log buffer =
+    let list = ourList (book limit log name) in
     cond (ltb (length buffer) (length list)) buffer (list ++ drop (length list) buffer)

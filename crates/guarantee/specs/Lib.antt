@@ -1,3 +1,4 @@
 pub mod Demand3
+pub mod LogRead
 pub mod Book
 pub mod Demand2

@@ -1,90 +1,140 @@
-// Demand 3 as one theorem about every run: the statement is in specs/, its proof in proofs/. What stands here ties its
-// answers to code: a log read from its header to its end or its stop. What each record came to is not given back here.
+// Demand 3 as one theorem about every run: the statement is in specs/, its proof in proofs/. What stands here ties it to
+// code: a log read from its header on, so many of its records as are asked for, to its end or its stop.
 use checker::CheckAnswer;
 use evidence::ListAnswer;
 use model::Place;
-use state::Beginning;
+use state::Outcome;
 use state::Start;
 use state::Witness;
 use witness::ConflictAnswer;
 use witness::StatusAnswer;
 ghost use mathlib.Core.Path.{_≡_};
-ghost use Rattle.model.specs.Bytes.{part};
+ghost use lib.ListN.{drop};
+ghost use Rattle.model.specs.Answer.{answer};
 ghost use Rattle.model.specs.Limits.{rootHeight};
+ghost use Rattle.model.specs.Run.{nothingLeft, readings};
 ghost use Rattle.model.specs.Log.{header};
 ghost use Rattle.model.specs.WellFormed.{WellFormed};
 ghost use Rattle.state.specs.State.{Typed, modelOf};
 ghost use Rattle.guarantee.specs.Book.{IsAnswers, bookBuffer};
-ghost use Rattle.guarantee.specs.Demand3.{witnessAfter, readingsFrom, IsReplay};
+ghost use Rattle.guarantee.specs.LogRead.{readOf, readOn, IsReplay};
 
-// Every record from an offset on, to the log's end or to the first that is unknown or cut, which reading does not pass.
-fn read_rest(w: Witness, log: &[u8], from: usize) -> Witness
+// What reading came to: what the last record read came to (`Nothing` where none was read), how many were read, and the
+// witness.
+pub struct Read {
+    pub last: Outcome,
+    pub records: u64,
+    pub witness: Witness,
+}
+
+// The records from an offset on, at most `limit` of them, to the log's end or to the first that is unknown or cut, which
+// reading does not pass.
+fn read_rest(w: Witness, log: &[u8], from: usize, limit: u64) -> Read
     requires { ⌜ Typed w × WellFormed rootHeight (modelOf w) ⌝ }
-    ensures { λ r. ⌜ r ≡ witnessAfter w (readingsFrom (now (log .entry)) from) ⌝ }
+    ensures { λ r. ⌜ readOf r ≡ readOn (answer nothingLeft) 0 w (readings limit (drop from (now (log .entry)))) ⌝ }
 {
-    let mut w = w;
+    let mut held = w;
     let mut at = from;
+    let mut last = Outcome::Nothing;
+    let mut records: u64 = 0;
     while at < log.len() {
-        let r = state::read_record(w, log, at);
+        if limit <= records {
+            return Read {
+                last,
+                records,
+                witness: held,
+            };
+        }
+        let r = reader::read_at(held, log, at);
         let next = r.next;
-        w = r.witness;
+        last = r.outcome;
+        held = r.witness;
+        records += 1;
         if next == at {
-            return w;
+            return Read {
+                last,
+                records,
+                witness: held,
+            };
         }
         at = next;
     }
-    w
+    Read {
+        last,
+        records,
+        witness: held,
+    }
 }
 
-// A log from its header to its end or its stop: rows 1 to 3, then every record in turn. A stop by row 4 or 5 is not told
-// apart from the end.
-pub fn replay(w: Witness, log: &[u8]) -> Beginning
-    ensures { λ r. ⌜ IsReplay w (now (log .entry)) r ⌝ }
+// What the header came to, and the records after it; where the header is refused, none is read and the witness is the one
+// handed in.
+pub struct Replayed {
+    pub start: Start,
+    pub read: Read,
+}
+
+// A log from its header to its end or its stop, or to its first `limit` records: rows 1 to 3, then every record in turn.
+pub fn replay(w: Witness, log: &[u8], limit: u64) -> Replayed
+    ensures { λ r. ⌜ IsReplay w (now (log .entry)) limit r ⌝ }
 {
     let begun = state::begin(w, log);
     let start = begun.outcome;
     let empty = begun.witness;
     match start {
         Start::Begun => {
-            let held = read_rest(empty, log, 37);
-            Beginning {
-                outcome: Start::Begun,
-                witness: held,
+            let read = read_rest(empty, log, 37, limit);
+            Replayed {
+                start: Start::Begun,
+                read,
             }
         }
-        Start::Refused(refusal) => Beginning {
-            outcome: Start::Refused(refusal),
-            witness: empty,
+        Start::Refused(refusal) => Replayed {
+            start: Start::Refused(refusal),
+            read: Read {
+                last: Outcome::Nothing,
+                records: 0,
+                witness: empty,
+            },
         },
     }
 }
 
-// What can be asked of a log: the standing of a place, the conflict, our list, and a list that someone handed in.
+// What can be asked of a log: what the last record read came to and how many were read, the standing of a place, the
+// conflict, our list, and a list that someone handed in.
 pub struct Answers {
+    pub last: Outcome,
+    pub records: u64,
     pub status: StatusAnswer,
     pub conflict: ConflictAnswer,
     pub ours: ListAnswer,
     pub theirs: CheckAnswer,
 }
 
-// A log read from its header to its end or its stop, then asked; our list goes into `buf`. The witness handed in plays no part.
-pub fn ask(w: Witness, log: &[u8], p: Place, theirs: &[u8], buf: &mut [u8]) -> Answers
+// A log read from its header to its end or its stop, or to its first `limit` records, then asked; our list goes into `buf`.
+// The witness handed in plays no part.
+pub fn ask(w: Witness, log: &[u8], limit: u64, p: Place, theirs: &[u8], buf: &mut [u8]) -> Answers
     ensures { λ r. ⌜
-        IsAnswers (now (log .entry)) (p .0) (now (theirs .entry)) (now (buf .entry)) r
-        × (now (buf .exit) ≡ bookBuffer (header (now (log .entry))) (now (log .entry)) (now (buf .entry)))
+        IsAnswers (now (log .entry)) limit (p .0) (now (theirs .entry)) (now (buf .entry)) r
+        × (now (buf .exit) ≡ bookBuffer (header (now (log .entry))) limit (now (log .entry)) (now (buf .entry)))
         ⌝ }
 {
-    let read = replay(w, log);
-    let start = read.outcome;
+    let replayed = replay(w, log, limit);
+    let start = replayed.start;
+    let read = replayed.read;
+    let last = read.last;
     let held = read.witness;
     match start {
         Start::Begun => Answers {
+            last,
+            records: read.records,
             status: witness::status(held, p),
             conflict: witness::conflict(held),
             ours: witness::write_list(held, buf),
             theirs: witness::check_list(held, theirs),
         },
         Start::Refused(refusal) => Answers {
+            last: Outcome::Refused(refusal),
+            records: 0,
             status: StatusAnswer::Refused(refusal),
             conflict: ConflictAnswer::Refused(refusal),
             ours: ListAnswer::Refused(refusal),

@@ -43,7 +43,7 @@ pub fn read_run(w: Witness, log: &[u8], at: usize, limit: u64) -> Run
     let mut next = at;
     let mut taken: u64 = 0;
     while taken < limit {
-        let r = state::read_record(held, log, next);
+        let r = read_at(held, log, next);
         let outcome = r.outcome;
         let after = r.witness;
         held = after;

@@ -1216,11 +1216,17 @@ fn main() {
     say_status(w, 4);
     say_status(w, 5);
     say_support(w, 0, 1);
+    say_support(w, 1, 3);
+    say_support(w, 0, 2);
+    say_support(w, 2, 4);
     say_support(w, 1, 2);
     say_conflict(w);
     say_list(w);
-    let replayed = guarantee::replay(blank(), &LOG);
-    let whole = replayed.witness;
+    let replayed = guarantee::replay(blank(), &LOG, 64);
+    let read = replayed.read;
+    let last = read.last;
+    let whole = read.witness;
+    say_reading(read.records, last);
     say_conflict(whole);
     say_list(whole);
 }

@@ -1,19 +1,19 @@
 -- What a reader gives back, once it is known what was decided.
-use Prim.Native.Nat.{ℕ, _+_, _*_, _<_}
-use mathlib.Core.Path.{_≡_, refl, sym, ap, ap₂, _∙_}
+use Prim.Native.Nat.{ℕ, _+_, _*_, _-_, _<_, _≤_}
+use mathlib.Core.Path.{_≡_, refl, sym, ap, ap₂, _∙_, subst}
 use mathlib.Core.Bool.{Bool, _||_, not}
 use mathlib.Core.List.{List, _++_}
 use native.Mathlib.Omega.{arith}
 use borrow.Author.Tests.{leb-false}
-use lib.ListN.{length, take, drop, set, replicate}
+use lib.ListN.{length, take, drop, getD, set, replicate}
 use lib.Seq.{paste, take-take}
 use lib.Dec.{ltb}
 use Rattle.model.specs.Answer.{Answer, refused, answer}
-use Rattle.model.specs.Decide.{membersFixed, decideMember, decideCheckpoint, heightsAgree, decidePlaces, decide}
+use Rattle.model.specs.Decide.{membersFixed, decideMember, decideCheckpoint, heightsAgree, decidePlaces, decideRecord, decide}
 use Rattle.model.specs.Bytes.{field, part}
 use Rattle.model.specs.Limits.{memberLimit, checkpointLimit, voteLimit}
 use Rattle.model.specs.Model.{Change, nothing, Member, Vote, addMember, addCheckpoint, addVote}
-use Rattle.model.specs.Log.{recordLength}
+use Rattle.model.specs.Log.{recordSize, recordLength, decodeWhole}
 use Rattle.model.specs.Refusals.{refusalNumber}
 use Rattle.model.specs.Run.{told}
 use Rattle.model.specs.declared.Height.{Height}
@@ -25,7 +25,7 @@ use Rattle.state.specs.declared.Reading.{Reading}
 use Rattle.state.specs.declared.Witness.{Witness}
 use Rattle.state.specs.declared.Outcome.the-variants.{Nothing, Taken, Refused}
 use Rattle.model.proofs.Answer.{row-passes}
-use Rattle.state.proofs.ByKind.{Decided}
+use Rattle.state.proofs.ByKind.{Decided, cut-record, whole-record}
 use Rattle.state.proofs.Decided.{field-at, part-at}
 use Rattle.state.proofs.Kept.{count-members, count-checkpoints, count-votes}
 
@@ -137,11 +137,21 @@ module _ (w : Witness) (at : ℕ) {s : List ℕ} where
   unfolding told store
   nothing-reading d = record { outcome = sym (ap told (d .answer)); next = omega (arith, d .passed); witness = sym (ap (store w) (d .answer)) }
 
-  pub stop-reading : {r : Refusal} → Decided (modelOf w) s (refused (refusalNumber r)) 0
-      → IsReading w (decide (modelOf w) s) (at + recordLength s) (record { outcome = Refused r; next = at; witness = w })
-  unfolding told store
-  stop-reading d = record { outcome = sym (ap told (d .answer)); next = omega (arith, d .passed); witness = sym (ap (store w) (d .answer)) }
-
-  pub whole-reading : {a : Answer Change} {n : ℕ} {r : Reading} → Decided (modelOf w) s a n → IsReading w a (at + n) r → IsReading w (decide (modelOf w) s) (at + recordLength s) r
+  whole-reading : {a : Answer Change} {n : ℕ} {r : Reading} → Decided (modelOf w) s a n → IsReading w a (at + n) r → IsReading w (decide (modelOf w) s) (at + recordLength s) r
   whole-reading d i =
       record { outcome = i .outcome ∙ sym (ap told (d .answer)); next = i .next ∙ ap (λ (k : ℕ). at + k) (sym (d .passed)); witness = i .witness ∙ sym (ap (store w) (d .answer)) }
+
+  -- reading stops: nothing is passed
+  pub stop-reading : {a : Answer Change} {r : Reading} → Decided (modelOf w) s a 0 → IsReading w a at r → IsReading w (decide (modelOf w) s) (at + recordLength s) r
+  stop-reading {a} {r} d i =
+      let same : at ≡ at + 0 = omega arith in
+      whole-reading d (subst (λ (n : ℕ). IsReading w a n r) same i)
+
+-- a record of a known kind: cut, or whole
+module _ (w : Witness) (at : ℕ) (log : List ℕ) (inside : at < length log) {kind n : ℕ} {r : Reading} (is : getD log at 0 ≡ kind) (size : recordSize kind ≡ n) (known : 0 < n) where
+  pub cut-reading : length log - at < n → IsReading w (refused 5) at r → IsReading w (decide (modelOf w) (drop at log)) (at + recordLength (drop at log)) r
+  cut-reading short i = stop-reading w at (cut-record (modelOf w) at log inside is size known short) i
+
+  pub kind-reading : n ≤ length log - at → IsReading w (decideRecord (modelOf w) (decodeWhole kind (drop at log))) (at + n) r
+      → IsReading w (decide (modelOf w) (drop at log)) (at + recordLength (drop at log)) r
+  kind-reading long i = whole-reading w at (whole-record (modelOf w) at log inside is size known long) i

@@ -8,7 +8,9 @@ ghost use lib.ListN.{length, take, drop, getD};
 ghost use lib.Seq.{paste};
 ghost use Rattle.model.specs.Bytes.{field, part, ascii};
 ghost use Rattle.model.specs.Lists.{sameBytes};
-ghost use Rattle.model.specs.Log.{header, recordSize, recordLength};
+ghost use Rattle.model.specs.Answer.{refused};
+ghost use Rattle.model.specs.Log.{header, recordLength};
+ghost use Rattle.model.specs.Refusals.{refusalNumber};
 ghost use Rattle.model.specs.Limits.{rootHeight};
 ghost use Rattle.model.specs.WellFormed.{WellFormed};
 ghost use Rattle.model.specs.Model.{Model, addMember, addVote};
@@ -429,19 +431,19 @@ fn read_vote(mut w: Witness, log: &[u8], at: usize) -> Reading
     }
 }
 
-// A record's bytes in all, by its kind byte; 0 where the kind is unknown.
-fn record_size(kind: u8) -> usize
-    ensures { λ r. ⌜ r ≡ recordSize kind ⌝ }
+// Reading ends at `at`: nothing is passed, and what earlier records built is kept.
+fn stop(w: Witness, at: usize, why: Refusal) -> Reading
+    ensures { λ r. ⌜ IsReading w (refused (refusalNumber why)) at r ⌝ }
 {
-    match kind {
-        1 => 11,
-        2 => 65,
-        3 => 75,
-        0 | 4..=255 => 0,
+    Reading {
+        outcome: Outcome::Refused(why),
+        next: at,
+        witness: w,
     }
 }
 
-// The record at `at`, into a sound witness: rows 4 and 5, then those of its kind.
+// The record at `at`, into a sound witness: the kind byte chooses the record's length and its decoder. Row 4 where the kind is
+// unknown, row 5 where the log ends before the record does, then the rows of the kind.
 pub fn read_record(w: Witness, log: &[u8], at: usize) -> Reading
     requires { ⌜ Typed w × WellFormed rootHeight (modelOf w) ⌝ }
     ensures { λ r. ⌜
@@ -458,25 +460,26 @@ pub fn read_record(w: Witness, log: &[u8], at: usize) -> Reading
             witness: w,
         };
     }
-    let kind = log[at];
-    let size = record_size(kind);
-    if size == 0 {
-        return Reading {
-            outcome: Outcome::Refused(Refusal::UnknownKind),
-            next: at,
-            witness: w,
-        };
-    }
-    if log.len() - at < size {
-        return Reading {
-            outcome: Outcome::Refused(Refusal::CutRecord),
-            next: at,
-            witness: w,
-        };
-    }
-    match kind {
-        1 => read_member(w, log, at),
-        2 => read_checkpoint(w, log, at),
-        _ => read_vote(w, log, at),
+    let left = log.len() - at;
+    match log[at] {
+        1 => {
+            if left < 11 {
+                return stop(w, at, Refusal::CutRecord);
+            }
+            read_member(w, log, at)
+        }
+        2 => {
+            if left < 65 {
+                return stop(w, at, Refusal::CutRecord);
+            }
+            read_checkpoint(w, log, at)
+        }
+        3 => {
+            if left < 75 {
+                return stop(w, at, Refusal::CutRecord);
+            }
+            read_vote(w, log, at)
+        }
+        0 | 4..=255 => stop(w, at, Refusal::UnknownKind),
     }
 }

@@ -55,7 +55,7 @@ pub fn read(w: Witness, log: &[u8], at: usize) -> Reading
             witness: w,
         };
     }
-    state::read_record(w, log, at)
+    reader::read_at(w, log, at)
 }
 
 // Checking a list of charges: row 40, then 50 to 57 entry by entry; else the sum of the named bonds.

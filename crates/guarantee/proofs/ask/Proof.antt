@@ -1,5 +1,5 @@
 -- `guarantee::ask` meets its contract: the log is read, and each call answers on the witness that it leaves. Assumes nothing.
-use mathlib.Core.Path.{_∙_}
+use mathlib.Core.Path.{refl, _∙_}
 use borrow.Author.Needs.{needs}
 use Rattle.model.specs.Bytes.{AreBytes}
 use Rattle.guarantee.proofs.Asked.{answers-begun, answers-refused, buffer-begun, buffer-refused}
@@ -35,21 +35,21 @@ returns c =
     let l = c .before .before .before in
     let s = l .before .before .before in
     let told = s .before in
-    let b = told .before .before .before in
+    let b = told .before .before .before .before in
     let start = b .before .before .before in
     let a = start .before .args in
     let bytes : AreBytes (a .log .now) = λ i h. start .shared-slice-known .given i .fits in (
-      answers-begun (a .w) (a .log .now) (b .replay .result) (b .replay .ensures) (a .p .0) (a .theirs .now) (a .buf .now) bytes (told .enum-told .given .1) _ (s .status .ensures)
+      answers-begun (a .w) (a .log .now) (a .limit) (b .replay .result) (b .replay .ensures) (a .p .0) (a .theirs .now) (a .buf .now) bytes (told .enum-told .given .1) _ refl refl (s .status .ensures)
           (l .before .before .conflict .ensures) (l .write-list .ensures .0) (c .check-list .ensures),
-      l .write-list .ensures .1 ∙ buffer-begun (a .w) (a .log .now) (b .replay .result) (b .replay .ensures) (a .buf .now) bytes (told .enum-told .given .1),
+      l .write-list .ensures .1 ∙ buffer-begun (a .w) (a .log .now) (a .limit) (b .replay .result) (b .replay .ensures) (a .buf .now) bytes (told .enum-told .given .1),
     )
 
 returns-2 : tie.Need-returns-2
 returns-2 c =
-    let b = c .before .before .before .before in
+    let b = c .before .before .before .before .before in
     let a = b .before .before .before .before .args in (
-      answers-refused (a .w) (a .log .now) (b .replay .result) (b .replay .ensures) (a .p .0) (a .theirs .now) (a .buf .now) _ (c .before .start .given .1),
-      buffer-refused (a .w) (a .log .now) (b .replay .result) (b .replay .ensures) (a .buf .now) _ (c .before .start .given .1),
+      answers-refused (a .w) (a .log .now) (a .limit) (b .replay .result) (b .replay .ensures) (a .p .0) (a .theirs .now) (a .buf .now) _ (c .before .start .given .1),
+      buffer-refused (a .w) (a .log .now) (a .limit) (b .replay .result) (b .replay .ensures) (a .buf .now) _ (c .before .start .given .1),
     )
 
 pub ask-spec : {M : Type 1} → statement M

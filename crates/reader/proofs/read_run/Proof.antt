@@ -16,11 +16,11 @@ abbrev μ-loop : tie.MeasureT-loop
 μ-loop log at limit held₀ next₀ taken₀ held next taken = limit - taken
 
 -- the witness that a reading leaves is sound
-still-sound : (c : tie.After-read-record Inv-loop μ-loop) → Sound (c .read-record .result .witness)
+still-sound : (c : tie.After-read-at Inv-loop μ-loop) → Sound (c .read-at .result .witness)
 still-sound c =
     let l = c .before .before .loop in
     let start = c .before .before .before in
-    subst Sound (sym (c .read-record .ensures .witness))
+    subst Sound (sym (c .read-at .ensures .witness))
     (reading-sound (l .held) (l .inv .2) _ (bytes-left (l .next) (start .before .args .log .now) (λ i h. start .shared-slice-known .given i .fits)))
 
 loop-holds : tie.Need-loop-holds Inv-loop μ-loop
@@ -28,8 +28,8 @@ loop-holds c =
     let a = c .before .args in
     (omega arith, none-read (a .limit) (a .w) (a .log .now) (a .at), record { typed = c .before .pre .0; good = c .before .pre .1 })
 
-read-record-requires : tie.Need-read-record-requires Inv-loop μ-loop
-read-record-requires c κs = let sound = c .before .loop .inv .2 in (sound .typed, sound .good)
+read-at-requires : tie.Need-read-at-requires Inv-loop μ-loop
+read-at-requires c κs = let sound = c .before .loop .inv .2 in (sound .typed, sound .good)
 
 is-taken-requires : tie.Need-is-taken-requires Inv-loop μ-loop
 is-taken-requires c κs = search needs
@@ -46,7 +46,7 @@ loop-again c =
     let l = r .before .before .loop in
     let a = r .before .before .before .before .args in (
       omega arith,
-      one-more (a .limit) (l .taken) (l .held) (a .log .now) (l .next) (r .before .loop-test .taken) (l .inv .1) (r .read-record .ensures) (sym (c .before .is-taken .ensures) ∙ c .if1 .taken),
+      one-more (a .limit) (l .taken) (l .held) (a .log .now) (l .next) (r .before .loop-test .taken) (l .inv .1) (r .read-at .ensures) (sym (c .before .is-taken .ensures) ∙ c .if1 .taken),
       still-sound r,
     )
 
@@ -55,7 +55,7 @@ returns c =
     let r = c .before .before .before in
     let l = r .before .before .loop in
     let a = r .before .before .before .before .args in
-    no-more (a .limit) (l .taken) (l .held) (a .log .now) (l .next) (r .before .loop-test .taken) (l .inv .1) (r .read-record .ensures) (sym (c .before .is-taken .ensures) ∙ c .if1 .left)
+    no-more (a .limit) (l .taken) (l .held) (a .log .now) (l .next) (r .before .loop-test .taken) (l .inv .1) (r .read-at .ensures) (sym (c .before .is-taken .ensures) ∙ c .if1 .left)
 
 returns-2 : tie.Need-returns-2 Inv-loop μ-loop
 returns-2 c =
@@ -70,7 +70,7 @@ read-run-spec =
     Inv-loop
     μ-loop
     loop-holds
-    read-record-requires
+    read-at-requires
     is-taken-requires
     add-taken
     loop-less

@@ -1,116 +1,149 @@
 -- `state::read_record` meets its contract: the kind byte chooses the record's length and its reader. Assumes nothing.
-use Prim.Native.Nat.{ℕ, _-_, _<_, _≤_}
-use mathlib.Core.Path.{_≡_, sym, ap, _∙_}
+use Prim.Native.Nat.{ℕ}
+use mathlib.Core.Path.{_≡_, refl, ap}
+use mathlib.Core.Logic.{⊎-elim}
 use native.Mathlib.Omega.{arith}
 use borrow.Author.Needs.{needs}
-use lib.ListN.{length, getD}
-use Rattle.model.specs.Log.{recordSize}
+use lib.ListN.{getD}
+use Rattle.model.specs.Decide.{decideRecord}
+use Rattle.model.specs.Log.{recordSize, decodeWhole}
 use Rattle.state.specs.State.{modelOf}
-use Rattle.state.proofs.ByKind.{size-vote, nothing-left, unknown-kind, cut-record, member-kind, checkpoint-kind, vote-kind}
-use Rattle.state.proofs.Readings.{nothing-reading, stop-reading, whole-reading}
+use Rattle.state.proofs.ByKind.{size-none, nothing-left, unknown-kind}
+use Rattle.state.proofs.Readings.{nothing-reading, stop-reading, cut-reading, kind-reading}
 use Rattle.state.proofs.Ready.{few-members, few-checkpoints, few-votes, falling, low-heights}
 use Rattle.state.proofs.read_record.Statement.{statement}
 use Rattle.state.proofs.read_record.Tie as tie
 
--- a whole record of a known kind
-abbrev kind : tie.Else3 → ℕ
-kind c = let a = c .before .before .before .before .before .before .args in getD (a .log .now) (a .at) 0
-
-inside : (c : tie.Else3) → c .before .before .before .before .before .before .args .at < length (c .before .before .before .before .before .before .args .log .now)
-inside c = c .before .before .before .before .if1 .left
-
-left : (c : tie.Else3) {n : ℕ} → recordSize (kind c) ≡ n → n ≤ length (c .before .before .before .before .before .before .args .log .now) - c .before .before .before .before .before .before .args .at
-left c e = omega (arith, c .before .before .record-size .ensures, c .if3 .left)
-
-one : (c : tie.At-match-keys1) → recordSize (kind (c .before)) ≡ 11
-unfolding recordSize
-one c = ap recordSize (c .match .keys1)
-
-two : (c : tie.At-match-keys2) → recordSize (kind (c .before)) ≡ 65
-unfolding recordSize
-two c = ap recordSize (c .match .keys2)
-
-three : (c : tie.At-match-rest) → recordSize (kind (c .before)) ≡ 75
-three c =
-    size-vote (kind (c .before)) (c .match .rest .0 .1) (c .match .rest .1)
-    (λ e. c .before .before .if2 .left (c .before .before .before .record-size .ensures ∙ e))
-
 returns : tie.Need-returns
 returns c = let a = c .before .before .args in nothing-reading (a .w) (a .at) (nothing-left (modelOf (a .w)) (a .at) (a .log .now) (c .if1 .taken))
 
-shared-slice-read-kind : tie.Need-shared-slice-read-kind
-shared-slice-read-kind c = search needs
+sub-left : tie.Need-sub-left
+sub-left c = search needs
 
-record-size-requires : tie.Need-record-size-requires
-record-size-requires c κs = search needs
+shared-slice-read-match : tie.Need-shared-slice-read-match
+shared-slice-read-match c = search needs
+
+stop-requires : tie.Need-stop-requires
+stop-requires c κs = search needs
+
+stop-requires-2 : tie.Need-stop-requires-2
+stop-requires-2 c κs = search needs
+
+stop-requires-3 : tie.Need-stop-requires-3
+stop-requires-3 c κs = search needs
+
+stop-requires-4 : tie.Need-stop-requires-4
+stop-requires-4 c κs = search needs
+
+-- ---- the log ends before the record does
 
 returns-2 : tie.Need-returns-2
+unfolding recordSize
 returns-2 c =
-    let a = c .before .before .before .before .before .args in
-    stop-reading (a .w) (a .at) (unknown-kind (modelOf (a .w)) (a .at) (a .log .now) (c .before .before .before .if1 .left) (sym (c .before .record-size .ensures) ∙ c .if2 .taken))
-
-sub-if3 : tie.Need-sub-if3
-sub-if3 c = search needs
+    let k = c .before .before in
+    let e = k .before .before in
+    let a = e .before .before .args in
+    cut-reading (a .w) (a .at) (a .log .now) (e .if1 .left) (k .match .keys1) refl (omega arith) (c .before .if2 .taken) (c .stop .ensures)
 
 returns-3 : tie.Need-returns-3
+unfolding recordSize
 returns-3 c =
-    let a = c .before .before .before .before .before .before .args in
-    stop-reading (a .w) (a .at) (cut-record (modelOf (a .w)) (a .at) (a .log .now) (c .before .before .before .before .if1 .left) (sym (c .before .before .record-size .ensures)) (c .before .if2 .left) (c .if3 .taken))
+    let k = c .before .before in
+    let e = k .before .before in
+    let a = e .before .before .args in
+    cut-reading (a .w) (a .at) (a .log .now) (e .if1 .left) (k .match .keys2) refl (omega arith) (c .before .if3 .taken) (c .stop2 .ensures)
+
+returns-4 : tie.Need-returns-4
+unfolding recordSize
+returns-4 c =
+    let k = c .before .before in
+    let e = k .before .before in
+    let a = e .before .before .args in
+    cut-reading (a .w) (a .at) (a .log .now) (e .if1 .left) (k .match .keys3) refl (omega arith) (c .before .if4 .taken) (c .stop3 .ensures)
+
+-- ---- whole records
 
 read-member-requires : tie.Need-read-member-requires
 read-member-requires c κs =
-    let start = c .before .before .before .before .before .before .before in
-    (start .pre .0, few-members (start .args .w) (start .pre .1), omega (arith, left (c .before) (one c), inside (c .before)))
+    let e = c .before .before .before in
+    let start = e .before .before in
+    (start .pre .0, few-members (start .args .w) (start .pre .1), omega (arith, c .if2 .left, e .if1 .left))
 
 read-checkpoint-requires : tie.Need-read-checkpoint-requires
 read-checkpoint-requires c κs =
-    let start = c .before .before .before .before .before .before .before in
-    ((start .pre .0, few-checkpoints (start .args .w) (start .pre .1), omega (arith, left (c .before) (two c), inside (c .before))), low-heights (start .args .w) (start .pre .1))
+    let e = c .before .before .before in
+    let start = e .before .before in
+    ((start .pre .0, few-checkpoints (start .args .w) (start .pre .1), omega (arith, c .if3 .left, e .if1 .left)), low-heights (start .args .w) (start .pre .1))
 
 read-vote-requires : tie.Need-read-vote-requires
 read-vote-requires c κs =
-    let start = c .before .before .before .before .before .before .before in
+    let e = c .before .before .before in
+    let start = e .before .before in
     let w = start .args .w in
     let good = start .pre .1 in
-    ((start .pre .0, few-members w good, few-checkpoints w good, few-votes w good), (omega (arith, left (c .before) (three c), inside (c .before)), falling w good))
-
-returns-4 : tie.Need-returns-4
-returns-4 c =
-    let m = c .before in
-    let a = c .before .before .before .before .before .before .before .before .args in
-    whole-reading (a .w) (a .at)
-    (member-kind (modelOf (a .w)) (a .at) (a .log .now) (inside (m .before)) (one m) (λ e. omega arith) (left (m .before) (one m)) (m .match .keys1))
-    (c .read-member .ensures)
+    ((start .pre .0, few-members w good, few-checkpoints w good, few-votes w good), (omega (arith, c .if4 .left, e .if1 .left), falling w good))
 
 returns-5 : tie.Need-returns-5
+unfolding recordSize decideRecord decodeWhole
 returns-5 c =
-    let m = c .before in
-    let a = c .before .before .before .before .before .before .before .before .args in
-    whole-reading (a .w) (a .at)
-    (checkpoint-kind (modelOf (a .w)) (a .at) (a .log .now) (inside (m .before)) (two m) (λ e. omega arith) (left (m .before) (two m)) (m .match .keys2))
-    (c .read-checkpoint .ensures)
+    let k = c .before .before in
+    let e = k .before .before in
+    let a = e .before .before .args in
+    kind-reading (a .w) (a .at) (a .log .now) (e .if1 .left) (k .match .keys1) refl (omega arith) (c .before .if2 .left) (c .read-member .ensures)
 
 returns-6 : tie.Need-returns-6
+unfolding recordSize decideRecord decodeWhole
 returns-6 c =
-    let m = c .before in
-    let a = c .before .before .before .before .before .before .before .before .args in
-    whole-reading (a .w) (a .at)
-    (vote-kind (modelOf (a .w)) (a .at) (a .log .now) (inside (m .before)) (three m) (λ e. omega arith) (left (m .before) (three m)) (m .match .rest .0 .1) (m .match .rest .1))
-    (c .read-vote .ensures)
+    let k = c .before .before in
+    let e = k .before .before in
+    let a = e .before .before .args in
+    kind-reading (a .w) (a .at) (a .log .now) (e .if1 .left) (k .match .keys2) refl (omega arith) (c .before .if3 .left) (c .read-checkpoint .ensures)
+
+returns-7 : tie.Need-returns-7
+unfolding recordSize decideRecord decodeWhole
+returns-7 c =
+    let k = c .before .before in
+    let e = k .before .before in
+    let a = e .before .before .args in
+    kind-reading (a .w) (a .at) (a .log .now) (e .if1 .left) (k .match .keys3) refl (omega arith) (c .before .if4 .left) (c .read-vote .ensures)
+
+-- ---- unknown kinds
+
+abbrev kind : tie.Else1 → ℕ
+kind e = let a = e .before .before .args in getD (a .log .now) (a .at) 0
+
+unknown : (c : tie.At-match-came) → recordSize (kind (c .before .before)) ≡ 0
+unfolding recordSize
+unknown c =
+    ⊎-elim
+    (λ zero. ap recordSize (zero .keys4))
+    (λ others. let none = others .rest .0 in size-none (kind (c .before .before)) (none .0 .0 .1) (none .0 .1) (none .1))
+    (c .match .came)
+
+returns-8 : tie.Need-returns-8
+returns-8 c =
+    let e = c .before .before .before in
+    let a = e .before .before .args in
+    stop-reading (a .w) (a .at) (unknown-kind (modelOf (a .w)) (a .at) (a .log .now) (e .if1 .left) refl (unknown (c .before))) (c .stop4 .ensures)
 
 pub read-record-spec : {M : Type 1} → statement M
 read-record-spec =
     tie.close
     (tie.spec
     returns
-    shared-slice-read-kind
-    record-size-requires
+    sub-left
+    shared-slice-read-match
+    stop-requires
     returns-2
-    sub-if3
-    returns-3
     read-member-requires
+    stop-requires-2
+    returns-3
     read-checkpoint-requires
-    read-vote-requires
+    stop-requires-3
     returns-4
+    read-vote-requires
+    stop-requires-4
     returns-5
-    returns-6)
+    returns-6
+    returns-7
+    returns-8)

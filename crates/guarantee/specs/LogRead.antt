@@ -1,0 +1,62 @@
+-- A log read from its header on: its records in turn, to its end or its stop, or the first so many of them. "A log read to its
+-- end or its stop is such a run."
+use Prim.Native.Nat.{ℕ, _+_, _≤_}
+use mathlib.Core.Path.{_≡_}
+use mathlib.Core.List.{List, [], _∷_}
+use lib.ListN.{length, drop}
+use Rattle.model.specs.Answer.{Answer, refused, answer}
+use Rattle.model.specs.Bytes.{AreBytes, part}
+use Rattle.model.specs.Lists.{All}
+use Rattle.model.specs.Log.{header}
+use Rattle.model.specs.Model.{start}
+use Rattle.model.specs.Run.{Event, OfBytes, Told, nothingLeft, after, readings}
+use Rattle.state.specs.State.{emptyWitness}
+use Rattle.state.specs.Reading.{outcomeOf, startOf}
+use Rattle.state.specs.declared.Witness.{Witness}
+use Rattle.guarantee.specs.declared.Read.{Read}
+use Rattle.guarantee.specs.declared.Replayed.{Replayed}
+use Rattle.guarantee.specs.Demand3.{witnessAfter, toldOf, Guarantee}
+
+-- what readings come to: what the last of them told, how many they are, and the witness
+pub record Reads : Type 0 where
+  pub last : Answer Told
+  pub records : ℕ
+  pub witness : Witness
+
+-- what the last of them told; `t` where there is none
+unfoldable pub lastTold : Answer Told → List (Answer Told) → Answer Told
+lastTold t [] = t
+lastTold t (u ∷ us) = lastTold u us
+
+-- readings into a witness, where k were made before and the last of those told `t`
+abbrev pub readOn : Answer Told → ℕ → Witness → List Event → Reads
+readOn t k w es = record { last = lastTold t (toldOf w es); records = k + length es; witness = witnessAfter w es }
+
+abbrev pub readOf : Read → Reads
+readOf r = record { last = outcomeOf (r .last); records = r .records; witness = r .witness }
+
+-- the readings of a log after its header, at most so many
+abbrev pub recordsOf : ℕ → List ℕ → List Event
+recordsOf limit log = readings limit (drop 37 log)
+
+-- by what the header says; one that is refused leaves the witness handed in
+unfoldable pub replayed : Witness → List ℕ → ℕ → Answer (List ℕ) → Reads
+replayed w log limit (refused n) = record { last = answer nothingLeft; records = 0; witness = w }
+replayed w log limit (answer name) = readOn (answer nothingLeft) 0 (emptyWitness name) (recordsOf limit log)
+
+-- what the code's `replay` gives back
+pub record IsReplay (w : Witness) (log : List ℕ) (limit : ℕ) (r : Replayed) : Type 0 where
+  pub start : startOf (part 5 32 log) (r .start) ≡ header log
+  pub read : readOf (r .read) ≡ replayed w log limit (header log)
+
+-- whatever witness was handed in, a log with a right header leaves one of which all of Demand 3 holds, after any number of its
+-- records
+abbrev pub LogIsRun : Type 0
+LogIsRun =
+    (w : Witness) (log : List ℕ) → AreBytes log → (limit : ℕ) (name : List ℕ) → header log ≡ answer name
+    → let es = recordsOf limit log in
+    All OfBytes es × Guarantee name es (replayed w log limit (header log) .witness) (after (start name) es)
+
+-- a limit that is no smaller than the log's length is none: the log is read to its end or its stop
+abbrev pub LogIsWhole : Type 0
+LogIsWhole = (log : List ℕ) (limit : ℕ) → length log ≤ limit → recordsOf limit log ≡ recordsOf (length log) log
