@@ -93,7 +93,7 @@ many-few zero w log at = omega arith
 many-few (suc n) w log at = go-on-few (told (decide (modelOf w) (drop at log))) _ _ _ n (many-few n _ log _)
 
 -- a record is within what is left of the log
-length-inside : (s : List ℕ) → recordLength s ≤ length s
+pub length-inside : (s : List ℕ) → recordLength s ≤ length s
 unfolding recordLength
 length-inside [] = omega arith
 length-inside (kind ∷ s) = go (ltb (length (kind ∷ s)) (recordSize kind)) refl

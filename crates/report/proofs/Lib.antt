@@ -1,0 +1,3 @@
+mod Told
+mod Onward
+mod Ends

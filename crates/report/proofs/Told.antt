@@ -1,0 +1,71 @@
+-- What a reading told says what was decided: the line of a record that is passed, and where one cannot be.
+use Prim.Native.Nat.{ℕ, _+_, _≤_}
+use native.Mathlib.Omega.{arith}
+use mathlib.Core.Path.{_≡_, refl, sym, ap, _∙_, subst}
+use mathlib.Core.List.{List, []}
+use mathlib.Core.Bool.{Bool, true, false, cond}
+use borrow.Author.Tests.{eq-eqb, ne-eqb}
+use lib.Dec.{eqb}
+use lib.ListN.{length}
+use Rattle.model.specs.Answer.{Answer, refused, answer}
+use Rattle.model.specs.Model.{Change, nothing, addMember, addCheckpoint, addVote}
+use Rattle.model.specs.Report.{stops?, stoppedLine, refusedLine, outcomeLine}
+use Rattle.model.specs.Run.{Told, told}
+use Rattle.state.specs.declared.Witness.{Witness}
+use Rattle.text.specs.Put.{Put}
+use Rattle.text.proofs.Putting.{none}
+use Rattle.report.specs.Feed.{Paused, wants, ended, Feeding, pausedAt, pausedOf, halted, IsFed}
+use Rattle.report.specs.declared.Fed.{Fed}
+use Rattle.report.specs.declared.Pause.{Pause}
+
+-- a refusal was decided
+told-refused : (a : Answer Change) (n : ℕ) → refused n ≡ told a → refused n ≡ a
+unfolding told
+told-refused (refused m) n e = let same : n ≡ m = cc e in ap refused same
+told-refused (answer nothing) n e = let z : _≡_ {A = ℕ} 0 1 = cc in absurd (omega arith)
+told-refused (answer (addMember x)) n e = let z : _≡_ {A = ℕ} 0 1 = cc in absurd (omega arith)
+told-refused (answer (addCheckpoint x)) n e = let z : _≡_ {A = ℕ} 0 1 = cc in absurd (omega arith)
+told-refused (answer (addVote x)) n e = let z : _≡_ {A = ℕ} 0 1 = cc in absurd (omega arith)
+
+-- ---- the line of a record that is passed
+
+pub line-refused : (k n : ℕ) (a : Answer Change) → refused n ≡ told a → stops? a ≡ false → refusedLine n k ≡ outcomeLine k a
+unfolding outcomeLine
+line-refused k n a e goes =
+    let is = told-refused a n e in
+    ap (λ (b : Bool). cond b (stoppedLine n k) (refusedLine n k)) (sym (ap stops? is ∙ goes)) ∙ ap (outcomeLine k) is
+
+pub line-none : (k : ℕ) (a : Answer Change) {t : Told} → answer t ≡ told a → [] ≡ outcomeLine k a
+unfolding outcomeLine told
+line-none k (refused n) e = let z : _≡_ {A = ℕ} 0 1 = cc in absurd (omega arith)
+line-none k (answer c) e = refl
+
+-- ---- where none can be passed
+
+module _ (w : Witness) (k : ℕ) (a : Answer Change) where
+  pub halted-ends : (n : ℕ) → refused n ≡ told a → n ≡ 4 → pausedAt (stoppedLine n k) ended w k ≡ halted a w k
+  unfolding halted
+  halted-ends n e four =
+      ap (λ (m : ℕ). pausedAt (stoppedLine m k) ended w k) four
+      ∙ ap (λ (b : Bool). cond b (pausedAt (stoppedLine 4 k) ended w k) (pausedAt [] wants w k)) (sym (eq-eqb n 4 four))
+      ∙ ap (λ (x : Answer Change). halted x w k) (told-refused a n e)
+
+  pub halted-waits : (n : ℕ) → refused n ≡ told a → (n ≡ 4 → ⊥) → pausedAt [] wants w k ≡ halted a w k
+  unfolding halted
+  halted-waits n e other =
+      ap (λ (b : Bool). cond b (pausedAt (stoppedLine 4 k) ended w k) (pausedAt [] wants w k)) (sym (ne-eqb n 4 other)) ∙ ap (λ (x : Answer Change). halted x w k) (told-refused a n e)
+
+  pub halted-none : {t : Told} → answer t ≡ told a → pausedAt [] wants w k ≡ halted a w k
+  unfolding halted told
+  halted-none e = go a e
+    where
+      go : (a : Answer Change) {t : Told} → answer t ≡ told a → pausedAt [] wants w k ≡ halted a w k
+      go (refused n) e = let z : _≡_ {A = ℕ} 0 1 = cc in absurd (omega arith)
+      go (answer c) e = refl
+
+-- what is given back there
+pub paused-fed : {f : Feeding} (w : Witness) (k next at : ℕ) (text before after : List ℕ) (why : Pause) {n : ℕ} → pausedAt text (pausedOf why) w k ≡ f → Put before at text after n
+    → IsFed f next at before (record { pause = why; next = next; records = k; written = n; witness = w }) after
+paused-fed w k next at text before after why {n} e put =
+    subst (λ (g : Feeding). IsFed g next at before (record { pause = why; next = next; records = k; written = n; witness = w }) after) e
+    (record { pause = refl; next = omega arith; records = refl; witness = refl; text = put })

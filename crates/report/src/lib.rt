@@ -1,0 +1,221 @@
+// The report of a log, its lines into a lent buffer. The log is fed in pieces: `open` takes its first bytes, `feed` the
+// records of each piece, `close` its end. What a call does not pass over belongs to the front of the next piece.
+use model::Refusal;
+use state::Outcome;
+use state::Start;
+use state::Witness;
+ghost use mathlib.Core.Path.{_≡_};
+ghost use Prim.Native.Nat.{_+_, _≤_, _<_};
+ghost use lib.ListN.{length, drop};
+ghost use mathlib.Core.Bool.{false};
+ghost use Rattle.model.specs.Answer.{Answer};
+ghost use Rattle.model.specs.Limits.{rootHeight};
+ghost use Rattle.model.specs.Model.{Change};
+ghost use Rattle.model.specs.Report.{stops?, outcomeLine};
+ghost use Rattle.model.specs.Run.{told};
+ghost use Rattle.model.specs.WellFormed.{WellFormed};
+ghost use Rattle.state.specs.Reading.{outcomeOf};
+ghost use Rattle.state.specs.State.{Typed, modelOf};
+ghost use Rattle.text.specs.Put.{Put};
+ghost use Rattle.report.specs.Feed.{halted, feedFrom, openCall, feedCall, endCall, IsFed};
+
+// Why a call paused: it wants the next piece; the buffer has no room for a line; the report has ended; or row 40.
+pub enum Pause {
+    Wants,
+    Full,
+    Ended,
+    Refused(Refusal),
+}
+
+// Why the call paused, the offset that it reached, the number of the next record, how many bytes it wrote, and the witness.
+pub struct Fed {
+    pub pause: Pause,
+    pub next: usize,
+    pub records: u64,
+    pub written: usize,
+    pub witness: Witness,
+}
+
+// The line of record k, which was passed: one that was refused has one.
+fn outcome_line(buf: &mut [u8], at: usize, k: u64, o: Outcome) -> usize
+    requires { ⌜ at + 64 ≤ length (now buf) ⌝ }
+    ensures { λ r. ⌜
+        ((a : Answer Change)
+        → outcomeOf o ≡ told a
+        → stops? a ≡ false
+        → Put (now (buf .entry)) at (outcomeLine k a) (now (buf .exit)) r)
+        ⌝ }
+{
+    match o {
+        Outcome::Refused(r) => text::lines::refused_line(buf, at, k, r),
+        Outcome::Nothing => at,
+        Outcome::Taken => at,
+    }
+}
+
+// Record k, at `next`, cannot be passed: an unknown kind ends the report, a cut record waits for the next piece.
+fn halt(w: Witness, buf: &mut [u8], at: usize, next: usize, k: u64, o: Outcome) -> Fed
+    requires { ⌜ at + 64 ≤ length (now buf) ⌝ }
+    ensures { λ r. ⌜
+        ((a : Answer Change)
+        → outcomeOf o ≡ told a
+        → IsFed (halted a w k) next at (now (buf .entry)) r (now (buf .exit)))
+        ⌝ }
+{
+    match o {
+        Outcome::Refused(r) => {
+            if text::refusals::refusal_number(r) == 4 {
+                let written = text::lines::stopped_line(buf, at, r, k);
+                return Fed {
+                    pause: Pause::Ended,
+                    next,
+                    records: k,
+                    written,
+                    witness: w,
+                };
+            }
+        }
+        Outcome::Nothing => {}
+        Outcome::Taken => {}
+    }
+    Fed {
+        pause: Pause::Wants,
+        next,
+        records: k,
+        written: at,
+        witness: w,
+    }
+}
+
+// Record after record from `at` on, into a sound witness, with the lines of those that are refused.
+fn read_on(w: Witness, records: u64, log: &[u8], at: usize, buf: &mut [u8]) -> Fed
+    requires { ⌜ Typed w × WellFormed rootHeight (modelOf w) ⌝ }
+    ensures { λ r. ⌜
+        IsFed
+        (feedFrom (length (drop at (now (log .entry))) + 1) (length (now (buf .entry))) w records (drop at (now (log .entry))))
+        at
+        0
+        (now (buf .entry))
+        r
+        (now (buf .exit))
+        ⌝ }
+{
+    let mut held = w;
+    let mut k = records;
+    let mut next = at;
+    let mut end: usize = 0;
+    loop {
+        if (buf.len() - end < 64) | (k == 18446744073709551615) {
+            return Fed {
+                pause: Pause::Full,
+                next,
+                records: k,
+                written: end,
+                witness: held,
+            };
+        }
+        let r = reader::read_at(held, log, next);
+        let outcome = r.outcome;
+        let past = r.next;
+        held = r.witness;
+        if past == next {
+            return halt(held, buf, end, next, k, outcome);
+        }
+        end = outcome_line(buf, end, k, outcome);
+        next = past;
+        k += 1;
+    }
+}
+
+// The log's first bytes, the header among them: rows 1 to 3 end the report. Any witness may be handed in. The records begin
+// at the offset reached.
+pub fn open(w: Witness, log: &[u8], buf: &mut [u8]) -> Fed
+    ensures { λ r. ⌜ IsFed (openCall (length (now (buf .entry))) w (now (log .entry))) 0 0 (now (buf .entry)) r (now (buf .exit)) ⌝ }
+{
+    if buf.len() < 64 {
+        return Fed {
+            pause: Pause::Full,
+            next: 0,
+            records: 0,
+            written: 0,
+            witness: w,
+        };
+    }
+    let begun = state::begin(w, log);
+    let start = begun.outcome;
+    let held = begun.witness;
+    match start {
+        Start::Begun => Fed {
+            pause: Pause::Wants,
+            next: 37,
+            records: 0,
+            written: 0,
+            witness: held,
+        },
+        Start::Refused(r) => {
+            let written = text::lines::stopped_line(buf, 0, r, 0);
+            Fed {
+                pause: Pause::Ended,
+                next: 0,
+                records: 0,
+                written,
+                witness: held,
+            }
+        }
+    }
+}
+
+// The records of a piece from `at` on, the first of them record `records`: the lines of those that are refused.
+pub fn feed(w: Witness, records: u64, log: &[u8], at: usize, buf: &mut [u8]) -> Fed
+    ensures { λ r. ⌜
+        IsFed (feedCall (length (now (buf .entry))) w records (drop at (now (log .entry)))) at 0 (now (buf .entry)) r (now (buf .exit))
+        ⌝ }
+{
+    if !sound::is_sound(w) {
+        return Fed {
+            pause: Pause::Refused(Refusal::UnsoundState),
+            next: at,
+            records,
+            written: 0,
+            witness: w,
+        };
+    }
+    read_on(w, records, log, at, buf)
+}
+
+// The end of the log, where `left` of its bytes were not passed: a record that stays cut, or the summary.
+pub fn close(w: Witness, records: u64, left: usize, buf: &mut [u8]) -> Fed
+    ensures { λ r. ⌜ IsFed (endCall (length (now (buf .entry))) w records left) 0 0 (now (buf .entry)) r (now (buf .exit)) ⌝ }
+{
+    if !sound::is_sound(w) {
+        return Fed {
+            pause: Pause::Refused(Refusal::UnsoundState),
+            next: 0,
+            records,
+            written: 0,
+            witness: w,
+        };
+    }
+    if buf.len() < 65536 {
+        return Fed {
+            pause: Pause::Full,
+            next: 0,
+            records,
+            written: 0,
+            witness: w,
+        };
+    }
+    let mut written: usize = 0;
+    if left == 0 {
+        written = summary::summary(w, buf);
+    } else {
+        written = text::lines::stopped_line(buf, 0, Refusal::CutRecord, records);
+    }
+    Fed {
+        pause: Pause::Ended,
+        next: 0,
+        records,
+        written,
+        witness: w,
+    }
+}

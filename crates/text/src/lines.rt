@@ -1,0 +1,152 @@
+// The report's lines: each is a label and a number, another label and number, and an ending.
+use crate::put;
+use crate::put_number;
+use crate::refusals::refusal_number;
+use model::Height;
+use model::Place;
+use model::Refusal;
+use model::Status;
+ghost use Prim.Native.Nat.{_+_, _≤_};
+ghost use mathlib.Core.List.{_++_};
+ghost use lib.ListN.{length};
+ghost use Rattle.model.specs.Evidence.{clear, broken};
+ghost use Rattle.model.specs.Refusals.{refusalNumber};
+ghost use Rattle.model.specs.Report.{decimal, refusedLine, stoppedLine, checkpointText, memberText, totalText};
+ghost use Rattle.text.specs.Put.{Put};
+
+// Two labels, each with its number after it, and an ending.
+fn line<'a>(
+    buf: &mut [u8],
+    at: usize,
+    first: &'a [u8],
+    m: u64,
+    second: &'a [u8],
+    n: u64,
+    ending: &'a [u8],
+) -> usize
+    requires { ⌜ at + (length (now first) + length (now second) + length (now ending) + 40) ≤ length (now buf) ⌝ }
+    ensures { λ r. ⌜
+        Put (now (buf .entry)) at (now (first .entry) ++ decimal m ++ now (second .entry) ++ decimal n ++ now (ending .entry)) (now (buf .exit)) r
+        × (r ≤ at + (length (now (first .entry)) + length (now (second .entry)) + length (now (ending .entry)) + 40))
+        ⌝ }
+{
+    let one = put(buf, at, first);
+    let two = put_number(buf, one, m);
+    let three = put(buf, two, second);
+    let four = put_number(buf, three, n);
+    put(buf, four, ending)
+}
+
+// The line of a record that is turned back.
+pub fn refused_line(buf: &mut [u8], at: usize, k: u64, r: Refusal) -> usize
+    requires { ⌜ at + 64 ≤ length (now buf) ⌝ }
+    ensures { λ n. ⌜ Put (now (buf .entry)) at (refusedLine (refusalNumber r) k) (now (buf .exit)) n × (n ≤ at + 64) ⌝ }
+{
+    line(
+        buf,
+        at,
+        b"refused ",
+        k,
+        b" number ",
+        refusal_number(r) as u64,
+        b"\n",
+    )
+}
+
+// The line of a reading that ends.
+pub fn stopped_line(buf: &mut [u8], at: usize, r: Refusal, k: u64) -> usize
+    requires { ⌜ at + 64 ≤ length (now buf) ⌝ }
+    ensures { λ n. ⌜ Put (now (buf .entry)) at (stoppedLine (refusalNumber r) k) (now (buf .exit)) n × (n ≤ at + 64) ⌝ }
+{
+    line(
+        buf,
+        at,
+        b"stopped ",
+        refusal_number(r) as u64,
+        b" record ",
+        k,
+        b"\n",
+    )
+}
+
+// A checkpoint's line.
+pub fn checkpoint_line(buf: &mut [u8], at: usize, p: Place, h: Height, s: Status) -> usize
+    requires { ⌜ at + 80 ≤ length (now buf) ⌝ }
+    ensures { λ n. ⌜ Put (now (buf .entry)) at (checkpointText (p .0) (h .0) s) (now (buf .exit)) n × (n ≤ at + 80) ⌝ }
+{
+    let place = p.0 as u64;
+    let height = h.0 as u64;
+    match s {
+        Status::Plain => line(
+            buf,
+            at,
+            b"checkpoint ",
+            place,
+            b" height ",
+            height,
+            b" plain\n",
+        ),
+        Status::Justified => line(
+            buf,
+            at,
+            b"checkpoint ",
+            place,
+            b" height ",
+            height,
+            b" justified\n",
+        ),
+        Status::Final => line(
+            buf,
+            at,
+            b"checkpoint ",
+            place,
+            b" height ",
+            height,
+            b" final\n",
+        ),
+    }
+}
+
+// The line of a member whose votes break no rule.
+pub fn clear_line(buf: &mut [u8], at: usize, id: u16, bond: u64) -> usize
+    requires { ⌜ at + 112 ≤ length (now buf) ⌝ }
+    ensures { λ n. ⌜ Put (now (buf .entry)) at (memberText id bond clear) (now (buf .exit)) n × (n ≤ at + 112) ⌝ }
+{
+    line(buf, at, b"member ", id as u64, b" bond ", bond, b" clear\n")
+}
+
+// The line of a member who broke a rule, with the numbers of the two votes.
+pub fn broken_line(buf: &mut [u8], at: usize, id: u16, bond: u64, i: u16, j: u16) -> usize
+    requires { ⌜ at + 112 ≤ length (now buf) ⌝ }
+    ensures { λ n. ⌜ Put (now (buf .entry)) at (memberText id bond (broken i j)) (now (buf .exit)) n × (n ≤ at + 112) ⌝ }
+{
+    let next = line(buf, at, b"member ", id as u64, b" bond ", bond, b" broken ");
+    line(buf, next, b"", i as u64, b" ", j as u64, b"\n")
+}
+
+// The line of the bonds.
+pub fn total_line(buf: &mut [u8], at: usize, total: u64, named: u64, conflict: bool) -> usize
+    requires { ⌜ at + 80 ≤ length (now buf) ⌝ }
+    ensures { λ n. ⌜ Put (now (buf .entry)) at (totalText total named conflict) (now (buf .exit)) n × (n ≤ at + 80) ⌝ }
+{
+    if conflict {
+        return line(
+            buf,
+            at,
+            b"total ",
+            total,
+            b" named ",
+            named,
+            b" conflict yes\n",
+        );
+    }
+    line(
+        buf,
+        at,
+        b"total ",
+        total,
+        b" named ",
+        named,
+        b" conflict no\n",
+    )
+}
