@@ -1,0 +1,71 @@
+-- No call passes over more bytes than it was lent, nor writes more than the buffer has.
+use Prim.Native.Nat.{ℕ, zero, suc, _+_, _-_, _≤_}
+use native.Mathlib.Omega.{arith}
+use mathlib.Core.Path.{_≡_, refl, sym, ap, _∙_, subst}
+use mathlib.Core.List.{List, []}
+use mathlib.Core.Bool.{Bool, true, false, cond, _||_}
+use borrow.Author.Tests.{ltb-false}
+use lib.Dec.{eqb, ltb}
+use lib.ListN.{length, drop, length-drop}
+use Rattle.model.specs.Answer.{Answer, refused, answer}
+use Rattle.model.specs.Decide.{decide}
+use Rattle.model.specs.Log.{header, recordLength}
+use Rattle.model.specs.Model.{Change}
+use Rattle.model.specs.Report.{stoppedLine, outcomeLine}
+use Rattle.model.proofs.Answer.{row-passes}
+use Rattle.state.specs.State.{modelOf, store}
+use Rattle.state.specs.declared.Witness.{Witness}
+use Rattle.reader.proofs.Made.{length-inside}
+use Rattle.text.proofs.Putting.{kept}
+use Rattle.witness.specs.Calls.{sound?}
+use Rattle.report.specs.Feed.{Feeding, full, wants, ended, pausedAt, ahead, refusedBy, lineRoom, lastNumber, halted, feedFrom, onSound, feedCall, headed, openCall, IsFed}
+use Rattle.report.specs.declared.Fed.{Fed}
+
+halted-passes : (a : Answer Change) (w : Witness) (k : ℕ) → halted a w k .passed ≡ 0
+unfolding halted
+halted-passes (refused n) w k = go (eqb n 4)
+  where
+    go : (b : Bool) → cond b (pausedAt (stoppedLine 4 k) ended w k) (pausedAt [] wants w k) .passed ≡ 0
+    go true = refl
+    go false = refl
+halted-passes (answer c) w k = refl
+
+from-passes : (n room : ℕ) (w : Witness) (k : ℕ) (s : List ℕ) → feedFrom n room w k s .passed ≤ length s
+unfolding feedFrom
+from-passes zero room w k s = omega arith
+from-passes (suc n) room w k s =
+    let a = decide (modelOf w) s in
+    let size = recordLength s in
+    let line = outcomeLine k a in
+    one a size line (feedFrom n (room - length line) (store w a) (k + 1) (drop size s)) (length-inside s)
+    (from-passes n (room - length line) (store w a) (k + 1) (drop size s)) (ltb room lineRoom || eqb k lastNumber) (eqb size 0)
+  where
+    one : (a : Answer Change) (size : ℕ) (line : List ℕ) (later : Feeding) → size ≤ length s → later .passed ≤ length (drop size s) → (no-room none : Bool)
+        → cond no-room (pausedAt [] full w k) (cond none (halted a w k) (ahead line size later)) .passed ≤ length s
+    one a size line later inside fewer true none = omega arith
+    one a size line later inside fewer false true = omega (arith, halted-passes a w k)
+    one a size line later inside fewer false false = omega (arith, fewer, inside, length-drop size s)
+
+pub feed-passes : (room : ℕ) (w : Witness) (k : ℕ) (s : List ℕ) → feedCall room w k s .passed ≤ length s
+unfolding feedCall onSound
+feed-passes room w k s = go (sound? w)
+  where
+    go : (b : Bool) → cond b (feedFrom (length s + 1) room w k s) (pausedAt [] (refusedBy 40) w k) .passed ≤ length s
+    go true = from-passes (length s + 1) room w k s
+    go false = omega arith
+
+pub open-passes : (room : ℕ) (w : Witness) (log : List ℕ) → openCall room w log .passed ≤ length log
+unfolding openCall headed
+open-passes room w log = go (ltb room lineRoom) (header log) refl
+  where
+    long : (name : List ℕ) → header log ≡ answer name → 37 ≤ length log
+    long name e = unfold header in (ltb-false (length log) 37 (row-passes 1 _ _ name e .clear))
+
+    go : (b : Bool) (h : Answer (List ℕ)) → header log ≡ h → cond b (pausedAt [] full w 0) (headed w h) .passed ≤ length log
+    go true h e = omega arith
+    go false (refused n) e = omega arith
+    go false (answer name) e = long name e
+
+-- what is written fits the buffer, which keeps its length
+pub written-fits : {f : Feeding} {at : ℕ} {before : List ℕ} {r : Fed} {after : List ℕ} → IsFed f at 0 before r after → r .written ≤ length after
+written-fits is = omega (arith, is .text .fits, is .text .past, kept (is .text))
