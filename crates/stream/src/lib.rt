@@ -59,3 +59,237 @@ fn keep(input: &mut [u8], from: usize, have: usize) -> usize
     }
     i
 }
+
+// Where the last line of the first n bytes begins.
+fn last_line(output: &[u8], n: usize) -> usize
+    requires { ⌜ n ≤ length (now output) ⌝ }
+    ensures { λ r. ⌜ r ≤ n ⌝ }
+{
+    let mut i = n;
+    while 1 < i {
+        i -= 1;
+        if output[i - 1] == b'\n' {
+            return i;
+        }
+    }
+    0
+}
+
+// Writes out the first n bytes: every line, or, where only a stop is to be told, the line that tells it.
+fn tell(output: &[u8], n: usize, lines: bool, stopped: bool) -> bool
+    requires { ⌜ n ≤ length (now output) ⌝ }
+{
+    if lines {
+        return io::write_all(STDOUT_FILENO, &output[..n]);
+    }
+    if stopped {
+        let from = last_line(output, n);
+        return io::write_all(STDOUT_FILENO, &output[from..n]);
+    }
+    true
+}
+
+// Whether the report has ended, and whether the call wants more of the log.
+fn has_ended(p: Pause) -> bool {
+    match p {
+        Pause::Ended => true,
+        Pause::Refused(_) => true,
+        Pause::Wants => false,
+        Pause::Full => false,
+    }
+}
+
+fn wants_more(p: Pause) -> bool {
+    match p {
+        Pause::Wants => true,
+        Pause::Full => false,
+        Pause::Ended => false,
+        Pause::Refused(_) => false,
+    }
+}
+
+// The log's first bytes where none was read yet, else the records that are at hand.
+fn call(w: Witness, begun: bool, records: u64, input: &[u8], output: &mut [u8]) -> Fed
+    ensures { λ r. ⌜ (r .next ≤ length (now (input .entry))) × (r .written ≤ length (now (output .exit))) ⌝ }
+{
+    if begun {
+        return report::feed(w, records, input, 0, output);
+    }
+    report::open(w, input, output)
+}
+
+// A witness to be handed in where none is held yet.
+fn blank() -> Witness {
+    Witness {
+        ids: [0u16; 128],
+        bonds: [0u64; 128],
+        names: [0u8; 16384],
+        parents: [Place(0); 512],
+        heights: [Height(0); 512],
+        voters: [0u16; 4096],
+        sources: [Place(0); 4096],
+        targets: [Place(0); 4096],
+        member_count: 0,
+        checkpoint_count: 0,
+        vote_count: 0,
+    }
+}
+
+// Where reading stands: whether it goes on, how it ended where it does not, whether the header was read, how many bytes are at
+// hand, whether the file has no more, the number of the next record, and the witness.
+struct Turn {
+    more: bool,
+    fate: Fate,
+    begun: bool,
+    have: usize,
+    at_end: bool,
+    records: u64,
+    witness: Witness,
+}
+
+// The bytes at hand are read, and what that writes is written out.
+fn advance(t: Turn, lines: bool, input: &mut [u8], output: &mut [u8]) -> Turn
+    requires { ⌜ t .have ≤ length (now input) ⌝ }
+    ensures { λ r. ⌜ r .have ≤ length (now (input .exit)) ⌝ }
+{
+    let held = t.witness;
+    let have = t.have;
+    let fed = call(held, t.begun, t.records, &input[..have], output);
+    let pause = fed.pause;
+    let stopped = has_ended(pause);
+    let next = fed.next;
+    let after = fed.witness;
+    let is_told = tell(output, fed.written, lines, stopped);
+    let left = keep(input, next, have);
+    Turn {
+        more: is_told & !stopped & !(wants_more(pause) & t.at_end),
+        fate: fate_of(is_told, stopped),
+        begun: true,
+        have: left,
+        at_end: t.at_end,
+        records: fed.records,
+        witness: after,
+    }
+}
+
+// How reading ended, where it goes no further.
+fn fate_of(is_told: bool, stopped: bool) -> Fate {
+    if !is_told {
+        os::fail(b"standard output");
+        return Fate::Failed;
+    }
+    if stopped {
+        return Fate::Stopped;
+    }
+    Fate::Whole
+}
+
+// One read, where the buffer has room and the file may have more.
+fn top_up(fd: i32, input: &mut [u8], have: usize, at_end: bool) -> Filled
+    requires { ⌜ have ≤ length (now input) ⌝ }
+    ensures { λ r. ⌜ r .bytes ≤ length (now (input .exit)) ⌝ }
+{
+    if (input.len() <= have) | at_end {
+        return Filled {
+            bytes: have,
+            ended: at_end,
+            failed: false,
+        };
+    }
+    let filled = refill(fd, input, have);
+    if filled.failed {
+        os::fail(b"log");
+    }
+    Filled {
+        bytes: have + filled.bytes,
+        ended: filled.ended,
+        failed: filled.failed,
+    }
+}
+
+// One turn: a read, and then what is at hand, once that has the header or all there is.
+fn step(fd: i32, t: Turn, lines: bool, input: &mut [u8], output: &mut [u8]) -> Turn
+    requires { ⌜ t .have ≤ length (now input) ⌝ }
+    ensures { λ r. ⌜ r .have ≤ length (now (input .exit)) ⌝ }
+{
+    let filled = top_up(fd, input, t.have, t.at_end);
+    let held = t.witness;
+    if filled.failed {
+        return Turn {
+            more: false,
+            fate: Fate::Failed,
+            begun: t.begun,
+            have: 0,
+            at_end: true,
+            records: t.records,
+            witness: held,
+        };
+    }
+    let ready = t.begun | filled.ended | (37 <= filled.bytes);
+    let at_hand = Turn {
+        more: true,
+        fate: Fate::Whole,
+        begun: t.begun,
+        have: filled.bytes,
+        at_end: filled.ended,
+        records: t.records,
+        witness: held,
+    };
+    if ready {
+        return advance(at_hand, lines, input, output);
+    }
+    at_hand
+}
+
+// Turn after turn, to the log's end or its stop. A proved loop has to end, and nothing says that a file does: so it counts
+// down from a number that no run uses up.
+fn read_pieces(fd: i32, lines: bool, input: &mut [u8], output: &mut [u8]) -> Turn {
+    let mut t = Turn {
+        more: true,
+        fate: Fate::Failed,
+        begun: false,
+        have: 0,
+        at_end: false,
+        records: 0,
+        witness: blank(),
+    };
+    let mut turns = u64::MAX;
+    while 0 < turns {
+        if !t.more {
+            return t;
+        }
+        t = step(fd, t, lines, input, output);
+        turns -= 1;
+    }
+    t
+}
+
+// A log from a file to its end or its stop. With `lines`, the report's lines so far are written to standard output; without,
+// only the line that tells a stop.
+pub fn read_log(fd: i32, lines: bool) -> Log {
+    let mut input = io::large_buffer();
+    let mut output = io::large_buffer();
+    let t = read_pieces(fd, lines, &mut input, &mut output);
+    let fate = t.fate;
+    let held = t.witness;
+    Log {
+        fate,
+        left: t.have,
+        records: t.records,
+        witness: held,
+    }
+}
+
+fn put_end(log: Log, output: &mut [u8]) -> bool {
+    let held = log.witness;
+    let fed = report::close(held, log.records, log.left, output);
+    tell(output, fed.written, true, true)
+}
+
+// The end of a log that was read whole, to standard output: the line of a record that stays cut, or the summary.
+pub fn write_end(log: Log) {
+    let mut output = io::large_buffer();
+    if !put_end(log, &mut output) {
+        os::fail(b"standard output");
+    }
+}

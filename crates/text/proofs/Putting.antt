@@ -65,6 +65,6 @@ module _ {l m : List ℕ} {at n : ℕ} {a : List ℕ} (first : Put l at a m n) w
           ∙ drop-drop (length b) (at + length a) l
           ∙ ap (λ (i : ℕ). drop i l) further
 
-  -- the ending, written as one piece, is a text's in its place between two others
-  pub ended : {A : Type 0} (f : A → List ℕ) (x b d : List ℕ) {s t : A} → s ≡ t → a ≡ x ++ (b ++ f t ++ d) → Put l at (x ++ b ++ f s ++ d) m n
-  ended f x b d told whole = spelled (whole ∙ ap (λ t. x ++ (b ++ f t ++ d)) (sym told) ∙ simp append-assoc)
+-- an ending, written as one piece, is that of an answer between two other texts
+pub ended : {l m o : List ℕ} {at n k : ℕ} {a : List ℕ} {A : Type 0} (f : A → List ℕ) (b d : List ℕ) {s t : A} → s ≡ t → Put l at a m n → Put m n (b ++ f t ++ d) o k → Put l at (a ++ b ++ f s ++ d) o k
+ended {a = a} f b d told first ending = spelled (next first ending) (ap (λ t. a ++ (b ++ f t ++ d)) (sym told) ∙ simp append-assoc)

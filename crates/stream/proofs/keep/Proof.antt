@@ -14,7 +14,7 @@ abbrev μ-loop : tie.MeasureT-loop
 μ-loop input₀ from have i₀ input i = have - i
 
 loop-holds : tie.Need-loop-holds Inv-loop μ-loop
-loop-holds c = (refl, omega (arith, c .before .pre))
+loop-holds c = (refl, omega (arith, c .pre))
 
 add-loop : tie.Need-add-loop Inv-loop μ-loop
 add-loop c = search needs

@@ -1,5 +1,5 @@
 -- `summary::checkpoints::checkpoint_lines` meets its contract. The loop's invariant: the lines of the first `p` places are written. Assumes nothing.
-use Prim.Native.Nat.{_<_, _+_, _*_, _-_, _≤_}
+use Prim.Native.Nat.{_+_, _*_, _-_, _<_, _≤_}
 use native.Mathlib.Nat.{le-antisymm}
 use native.Mathlib.Omega.{arith}
 use Rattle.model.specs.Report.{checkpointLines}
@@ -18,6 +18,7 @@ Inv-loop buf₀ at w count a next₀ p₀ buf next p = (p ≤ count) × (next �
 abbrev μ-loop : tie.MeasureT-loop
 μ-loop buf₀ at w count a next₀ p₀ buf next p = count - p
 
+-- a place is one of 512
 below : (c : tie.In-loop Inv-loop μ-loop) → c .before .loop .p < 512
 below c = omega (arith, c .loop-test .taken, places-fit (c .before .before .before .before .pre .0))
 

@@ -1,5 +1,5 @@
 -- `summary::members::member_lines` meets its contract. The loop's invariant: the lines of the members at the first `k` places are written. Assumes nothing.
-use Prim.Native.Nat.{_<_, ℕ, _+_, _*_, _-_, _≤_}
+use Prim.Native.Nat.{ℕ, _+_, _*_, _-_, _<_, _≤_}
 use native.Mathlib.Nat.{le-antisymm}
 use native.Mathlib.Omega.{arith}
 use mathlib.Core.Path.{_≡_, ap, _∙_}

@@ -1,5 +1,5 @@
 -- `summary::members::named_bonds` meets its contract. The loop's invariant: what is summed and what remains come to the whole. Assumes nothing.
-use Prim.Native.Nat.{_<_, _+_, _-_, _≤_}
+use Prim.Native.Nat.{_+_, _-_, _<_, _≤_}
 use native.Mathlib.Omega.{arith}
 use mathlib.Core.Path.{_≡_, sym, _∙_}
 use mathlib.Core.Bool.{Bool, cond}
@@ -16,6 +16,7 @@ Inv-loop w count named₀ i₀ named i = (i ≤ count) × Summed w i named
 abbrev μ-loop : tie.MeasureT-loop
 μ-loop w count named₀ i₀ named i = count - i
 
+-- a member is one of 128
 below : (c : tie.In-loop Inv-loop μ-loop) → c .before .loop .i < 128
 below c = omega (arith, c .loop-test .taken, members-fit (c .before .before .pre))
 

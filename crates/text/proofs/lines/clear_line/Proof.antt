@@ -6,21 +6,23 @@ use Rattle.model.specs.Bytes.{ascii}
 use Rattle.model.specs.Evidence.{clear}
 use Rattle.model.specs.Report.{memberText, conductText, newline}
 use Rattle.text.proofs.Putting.{ended}
-use Rattle.text.proofs.Line.{front}
 use Rattle.text.proofs.lines.clear_line.Statement.{statement}
 use Rattle.text.proofs.lines.clear_line.Tie as tie
 
-slice-aggregate-line : tie.Need-slice-aggregate-line
-slice-aggregate-line c = search needs
+slice-aggregate-pair : tie.Need-slice-aggregate-pair
+slice-aggregate-pair c = search needs
 
-slice-aggregate-line-2 : tie.Need-slice-aggregate-line-2
-slice-aggregate-line-2 c = search needs
+slice-aggregate-pair-2 : tie.Need-slice-aggregate-pair-2
+slice-aggregate-pair-2 c = search needs
 
-slice-aggregate-line-3 : tie.Need-slice-aggregate-line-3
-slice-aggregate-line-3 c = search needs
+pair-requires : tie.Need-pair-requires
+pair-requires c κs = search needs
 
-line-requires : tie.Need-line-requires
-line-requires c κs = search needs
+slice-aggregate-put : tie.Need-slice-aggregate-put
+slice-aggregate-put c = search needs
+
+put-requires : tie.Need-put-requires
+put-requires c κs = search needs
 
 same-length : tie.Need-same-length
 same-length c = search needs
@@ -28,19 +30,17 @@ same-length c = search needs
 returns : tie.Need-returns
 unfolding memberText conductText ascii newline
 returns c =
-    let l = c .before .before in
-    let a = l .before .before .before .before .before .before .args in (
-      ended (l .line .ensures .0) conductText (front "member " (a .id) " bond " (a .bond)) (ascii " ") newline {s = clear} refl refl,
-      omega arith,
-    )
+    let ending = c .before .before in
+    (ended conductText (ascii " ") newline {s = clear} refl (ending .before .before .before .before .before .pair .ensures .0) (ending .put .ensures), omega arith)
 
 pub clear-line-spec : {M : Type 1} → statement M
 clear-line-spec =
     tie.close
     (tie.spec
-    slice-aggregate-line
-    slice-aggregate-line-2
-    slice-aggregate-line-3
-    line-requires
+    slice-aggregate-pair
+    slice-aggregate-pair-2
+    pair-requires
+    slice-aggregate-put
+    put-requires
     same-length
     returns)

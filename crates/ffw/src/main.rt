@@ -1,0 +1,13 @@
+// The report of a log: the log on standard input, the report on standard output.
+use libc::STDIN_FILENO;
+use stream::Fate;
+
+fn main() {
+    let log = stream::read_log(STDIN_FILENO, true);
+    let fate = log.fate;
+    match fate {
+        Fate::Whole => stream::write_end(log),
+        Fate::Stopped => {}
+        Fate::Failed => {}
+    }
+}
