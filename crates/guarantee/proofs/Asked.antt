@@ -28,7 +28,8 @@ use Rattle.guarantee.specs.Book.{book, byHeader, onBook, bookLast, recor
 use Rattle.guarantee.specs.LogRead.{Reads, readOf, lastTold, recordsOf, replayed, IsReplay}
 use Rattle.guarantee.specs.declared.Answers.{Answers}
 use Rattle.guarantee.specs.declared.Replayed.{Replayed}
-use Rattle.guarantee.proofs.Demand.{Holds, start-holds, header-name, records-bytes, run-holds, run-told, answered, buffer-is}
+use Rattle.state.proofs.Started.{header-name}
+use Rattle.guarantee.proofs.Demand.{Holds, start-holds, records-bytes, run-holds, run-told, answered, buffer-is}
 
 module _ (w : Witness) (log : List ℕ) (limit : ℕ) (r : Replayed) (is : IsReplay w log limit r) where
   -- the witness that a log with a right header leaves holds the book

@@ -1,24 +1,21 @@
 -- Demand 3, proved: the witness after a run holds the model after the run, and every call answers by it.
-use Prim.Native.Nat.{ℕ, _≤_}
+use Prim.Native.Nat.{ℕ}
 use native.Mathlib.Omega.{arith}
 use mathlib.Core.Path.{_≡_, refl, sym, ap, ap₂, _∙_, subst}
 use mathlib.Core.List.{List, [], _∷_, _++_, map}
 use mathlib.Core.Bool.{Bool, true, false, cond}
-use borrow.Author.Tests.{ltb-false}
 use lib.Dec.{ltb}
-use lib.ListN.{length, take, drop, length-take, length-drop}
+use lib.ListN.{length, drop, length-drop}
 use Rattle.model.specs.Answer.{Answer, refused, answer, row}
-use Rattle.model.specs.Bytes.{AreBytes, part}
+use Rattle.model.specs.Bytes.{AreBytes}
 use Rattle.model.specs.Checker.{check}
 use Rattle.model.specs.Decide.{decide}
 use Rattle.model.specs.Evidence.{ourList}
 use Rattle.model.specs.Limits.{rootHeight}
 use Rattle.model.specs.Lists.{All, none, each}
-use Rattle.model.specs.Log.{header}
 use Rattle.model.specs.Model.{Model, start, apply}
 use Rattle.model.specs.Run.{Event, reading, OfBytes, told, decideEvent, after, outcomes}
 use Rattle.model.specs.WellFormed.{WellFormed}
-use Rattle.model.proofs.Answer.{row-passes}
 use Rattle.model.proofs.Bytes.{drop-bytes}
 use Rattle.model.proofs.Checker.{checker-exact, list-exact}
 use Rattle.model.proofs.Finality.{status-exact, conflict-exact}
@@ -29,7 +26,7 @@ use Rattle.safety.proofs.Safety.{accountable-safety, no-innocent-named}
 use Rattle.state.specs.State.{Typed, emptyWitness, modelOf, store}
 use Rattle.state.specs.declared.Witness.{Witness}
 use Rattle.state.proofs.Kept.{reading-kept}
-use Rattle.state.proofs.Started.{empty-model, empty-typed}
+use Rattle.state.proofs.Started.{empty-model, empty-typed, header-name}
 use Rattle.witness.specs.Calls.{sound?, onSound, decided, statusCall, supportCall, conflictCall, listCall, listBuffer, checkCall}
 use Rattle.witness.proofs.Guarded.{on-sound, sound-good}
 use Rattle.guarantee.specs.Demand2.{ByTheRules, Demand2}
@@ -125,17 +122,6 @@ demand-3 name long es bytes =
       answers = by-the-rules (witnessAfter (emptyWitness name) es) (after (start name) es) h;
       share = accountable-safety name es bytes;
     }
-
--- a right header has a name of 32 bytes
-pub header-name : (log name : List ℕ) → header log ≡ answer name → length name ≡ 32
-unfolding header
-header-name log name e =
-    let r1 = row-passes 1 _ _ name e in
-    let r2 = row-passes 2 _ _ name (r1 .rest) in
-    let r3 = row-passes 3 _ _ name (r2 .rest) in
-    let long : 37 ≤ length log = ltb-false (length log) 37 (r1 .clear) in
-    let same : part 5 32 log ≡ name = cc (r3 .rest) in
-    sym (ap length same) ∙ length-take 32 (drop 5 log) ∙ omega (arith, length-drop 5 log, long)
 
 pub records-bytes : (limit : ℕ) (log : List ℕ) → AreBytes log → All OfBytes (recordsOf limit log)
 records-bytes limit log bytes = readings-bytes limit (drop 37 log) (drop-bytes 37 log bytes)

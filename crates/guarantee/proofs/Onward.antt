@@ -31,7 +31,8 @@ use Rattle.witness.specs.Calls.{decided}
 use Rattle.guarantee.specs.Demand3.{witnessAfter, toldOf}
 use Rattle.guarantee.specs.LogRead.{Reads, lastTold, readOn, readOf, recordsOf, replayed, IsReplay}
 use Rattle.guarantee.specs.declared.Read.{Read}
-use Rattle.guarantee.proofs.Demand.{Holds, decided-is, step-holds, start-holds, header-name}
+use Rattle.state.proofs.Started.{header-name}
+use Rattle.guarantee.proofs.Demand.{Holds, decided-is, step-holds, start-holds}
 
 -- a sound witness
 abbrev pub Sound : Witness → Type 0

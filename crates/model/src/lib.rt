@@ -1,9 +1,11 @@
 // The types of the finality witness, its limits and its refusals. The rules themselves are in specs/.
 
 // A checkpoint's place: checkpoints are counted in the order of acceptance, the root being 0.
+#[repr(C)]
 pub struct Place(pub u16);
 
 // A checkpoint's height in the tree: the root's, and one more for each step away from it.
+#[repr(C)]
 pub struct Height(pub u32);
 
 // Document 01's standing of a checkpoint. A final checkpoint is justified too.

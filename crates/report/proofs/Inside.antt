@@ -3,8 +3,7 @@ use Prim.Native.Nat.{ℕ, zero, suc, _+_, _-_, _≤_}
 use native.Mathlib.Omega.{arith}
 use mathlib.Core.Path.{_≡_, refl, sym, ap, _∙_, subst}
 use mathlib.Core.List.{List, []}
-use mathlib.Core.Bool.{Bool, true, false, cond, _||_}
-use borrow.Author.Tests.{ltb-false}
+use mathlib.Core.Bool.{Bool, true, false, cond, not, _&&_, _||_}
 use lib.Dec.{eqb, ltb}
 use lib.ListN.{length, drop, length-drop}
 use Rattle.model.specs.Answer.{Answer, refused, answer}
@@ -12,8 +11,8 @@ use Rattle.model.specs.Decide.{decide}
 use Rattle.model.specs.Log.{header, recordLength}
 use Rattle.model.specs.Model.{Change}
 use Rattle.model.specs.Report.{stoppedLine, outcomeLine}
-use Rattle.model.proofs.Answer.{row-passes}
 use Rattle.state.specs.State.{modelOf, store}
+use Rattle.state.proofs.Started.{header-long}
 use Rattle.state.specs.declared.Witness.{Witness}
 use Rattle.reader.proofs.Made.{length-inside}
 use Rattle.text.proofs.Putting.{kept}
@@ -54,17 +53,15 @@ feed-passes room w k s = go (sound? w)
     go true = from-passes (length s + 1) room w k s
     go false = omega arith
 
-pub open-passes : (room : ℕ) (w : Witness) (log : List ℕ) → openCall room w log .passed ≤ length log
+pub open-passes : (last : Bool) (room : ℕ) (w : Witness) (log : List ℕ) → openCall last room w log .passed ≤ length log
 unfolding openCall headed
-open-passes room w log = go (ltb room lineRoom) (header log) refl
+open-passes last room w log = go (ltb (length log) 37 && not last) (ltb room lineRoom) (header log) refl
   where
-    long : (name : List ℕ) → header log ≡ answer name → 37 ≤ length log
-    long name e = unfold header in (ltb-false (length log) 37 (row-passes 1 _ _ name e .clear))
-
-    go : (b : Bool) (h : Answer (List ℕ)) → header log ≡ h → cond b (pausedAt [] full w 0) (headed w h) .passed ≤ length log
-    go true h e = omega arith
-    go false (refused n) e = omega arith
-    go false (answer name) e = long name e
+    go : (short no-room : Bool) (h : Answer (List ℕ)) → header log ≡ h → cond short (pausedAt [] wants w 0) (cond no-room (pausedAt [] full w 0) (headed w h)) .passed ≤ length log
+    go true no-room h e = omega arith
+    go false true h e = omega arith
+    go false false (refused n) e = omega arith
+    go false false (answer name) e = header-long log name e
 
 -- what is written fits the buffer, which keeps its length
 pub written-fits : {f : Feeding} {at : ℕ} {before : List ℕ} {r : Fed} {after : List ℕ} → IsFed f at 0 before r after → r .written ≤ length after

@@ -2,7 +2,7 @@ mod Told
 mod Onward
 mod Ends
 pub mod Inside
-pub mod Prefix
+mod Prefix
 mod RestOfReport
 mod Feeding
 pub mod Pieces

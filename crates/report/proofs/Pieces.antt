@@ -1,29 +1,35 @@
 -- A log fed in pieces gives the report of the whole log.
-use Prim.Native.Nat.{ℕ, zero, suc, _+_, _≤_}
+use Prim.Native.Nat.{ℕ, zero, suc, _+_, _-_, _≤_, _<_}
 use native.Mathlib.Omega.{arith}
 use mathlib.Core.Path.{_≡_, refl, sym, ap, ap₂, _∙_, subst}
 use mathlib.Core.List.{List, [], _∷_, _++_, append-assoc, append-nil, flatMap}
-use borrow.Author.Tests.{ltb-false}
-use lib.ListN.{length, drop, length-append, length-take, length-drop, List·getD-append}
-use lib.Seq.{getD-append-add}
-use Rattle.model.specs.Answer.{answer}
-use Rattle.model.specs.Bytes.{AreBytes, part}
+use mathlib.Core.Logic.{_⊎_, ⊎-elim}
+use mathlib.Core.Bool.{Bool, true, false, cond, not, _&&_, _||_}
+use borrow.Author.Tests.{le-ltb, ne-eqb, eqb-false}
+use lib.Dec.{ltb, eqb}
+use lib.ListN.{length, drop, length-append, List·getD-append}
+use lib.Seq.{getD-append-add, drop-append-le}
+use Rattle.model.specs.Answer.{Answer, refused, answer}
+use Rattle.model.specs.Bytes.{AreBytes}
+use Rattle.model.specs.Decide.{decide}
 use Rattle.model.specs.Limits.{rootHeight}
-use Rattle.model.specs.Log.{header}
-use Rattle.model.specs.Model.{Model, start}
-use Rattle.model.specs.Report.{report, reportBody, reportRun}
+use Rattle.model.specs.Log.{header, recordLength}
+use Rattle.model.specs.Model.{Model, Change, start}
+use Rattle.model.specs.Report.{report, reportBody, reportRun, stoppedLine, outcomeLine}
 use Rattle.model.specs.WellFormed.{WellFormed}
-use Rattle.model.proofs.Answer.{row-passes}
 use Rattle.model.proofs.Bytes.{drop-bytes}
+use Rattle.model.proofs.Lists.{clash}
 use Rattle.model.proofs.Run.{start-good}
-use Rattle.state.specs.State.{emptyWitness, modelOf}
+use Rattle.model.proofs.Sound.{true-well-formed}
+use Rattle.state.specs.State.{emptyWitness, modelOf, store}
 use Rattle.state.specs.declared.Witness.{Witness}
-use Rattle.state.proofs.Started.{empty-model, empty-typed}
+use Rattle.state.proofs.Started.{empty-model, empty-typed, header-long, header-name}
 use Rattle.reader.proofs.Runs.{Sound}
-use Rattle.report.specs.Feed.{Paused, wants, full, ended, refusedBy, feedCall, endText}
-use Rattle.report.specs.Pieces.{restOfReport, Piece, onward, fedText, lastPause, InPieces}
+use Rattle.witness.specs.Calls.{sound?}
+use Rattle.report.specs.Feed.{Paused, wants, full, ended, refusedBy, Feeding, pausedAt, ahead, lineRoom, lastNumber, halted, headed, onSound, feedFrom, openCall, feedCall, endText, endFed, endCall}
+use Rattle.report.specs.Pieces.{restOfReport, Piece, onward, fedText, lastPause, endPause, InPieces, FeedGoesOn}
 use Rattle.report.proofs.Feeding.{Waits, fed-call}
-use Rattle.report.proofs.RestOfReport.{rest-ends}
+use Rattle.report.proofs.Prefix.{header-in-piece}
 
 -- ---- bytes put together
 
@@ -43,53 +49,57 @@ bytes-both (x ∷ s) t b c (suc i) h = bytes-both s t (λ j l. b (suc j) (omega 
 abbrev all : List Piece → List ℕ
 all ps = flatMap (λ p. p .bytes) ps
 
-module _ (w : Witness) (k : ℕ) (s : List ℕ) where
-  -- the last call paused so
-  last-fed : (why : Paused) → (why ≡ wants → Waits w k s) → (onward why why why ≡ full → ⊥)
-      → onward why [] (endText (modelOf w) k (length s)) ≡ onward why [] (restOfReport (modelOf w) k s)
+module _ (room : ℕ) (w : Witness) (sound : Sound w) (k n : ℕ) where
+  close-is : (short : Bool) → ltb room (length (endText (modelOf w) k n)) ≡ short
+      → endCall room w k n ≡ cond short (pausedAt [] full w k) (pausedAt (endText (modelOf w) k n) ended w k)
+  unfolding endCall endFed onSound sound?
+  close-is short e = rw (true-well-formed rootHeight (modelOf w) (sound .good), e)
+
+  -- what `close` writes, where it has room
+  close-text : (endCall room w k n .paused ≡ full → ⊥) → endCall room w k n .text ≡ endText (modelOf w) k n
+  close-text fits = go (ltb room (length (endText (modelOf w) k n))) refl
+    where
+      go : (short : Bool) → ltb room (length (endText (modelOf w) k n)) ≡ short → endCall room w k n .text ≡ endText (modelOf w) k n
+      go true e = absurd (fits (ap (λ (f : Feeding). f .paused) (close-is true e)))
+      go false e = ap (λ (f : Feeding). f .text) (close-is false e)
+
+module _ (room : ℕ) (w : Witness) (sound : Sound w) (k : ℕ) (s : List ℕ) where
+  -- the last call of `feed` paused so
+  last-fed : (why : Paused) → (why ≡ wants → Waits w k s) → (onward why why why ≡ full → ⊥) → (onward why why (endCall room w k (length s) .paused) ≡ full → ⊥)
+      → onward why [] (endCall room w k (length s) .text) ≡ onward why [] (restOfReport (modelOf w) k s)
   unfolding onward
-  last-fed wants waits room = sym (waits refl)
-  last-fed full waits room = absurd (room refl)
-  last-fed ended waits room = refl
-  last-fed (refusedBy n) waits room = refl
+  last-fed wants waits fed closed = close-text room w sound k (length s) closed ∙ sym (waits refl)
+  last-fed full waits fed closed = absurd (fed refl)
+  last-fed ended waits fed closed = refl
+  last-fed (refusedBy n) waits fed closed = refl
 
 -- a call paused so: the calls after it, if there are any, write y where they write x
-onward-fed : (why last : Paused) (x y : List ℕ) → ((last ≡ full → ⊥) → x ≡ y) → (onward why why last ≡ full → ⊥) → onward why [] x ≡ onward why [] y
+onward-fed : (why last end : Paused) (x y : List ℕ) → ((last ≡ full → ⊥) → (end ≡ full → ⊥) → x ≡ y) → (onward why why last ≡ full → ⊥) → (onward why why end ≡ full → ⊥)
+    → onward why [] x ≡ onward why [] y
 unfolding onward
-onward-fed wants last x y same room = same room
-onward-fed full last x y same room = same room
-onward-fed ended last x y same room = refl
-onward-fed (refusedBy n) last x y same room = refl
+onward-fed wants last end x y same fed closed = same fed closed
+onward-fed full last end x y same fed closed = same fed closed
+onward-fed ended last end x y same fed closed = refl
+onward-fed (refusedBy n) last end x y same fed closed = refl
 
 -- a call paused so, and left s: what is written after it
-pieces-fed : (ps : List Piece) (why : Paused) (w : Witness) → Sound w → (k : ℕ) (s : List ℕ) → AreBytes s → AreBytes (all ps)
-    → (why ≡ wants → Waits w k s) → (onward why why (lastPause why w k s ps) ≡ full → ⊥)
-    → onward why [] (fedText w k s ps) ≡ onward why [] (restOfReport (modelOf w) k (s ++ all ps))
-unfolding fedText lastPause flatMap
-pieces-fed [] why w sound k s bytes later waits room = rw append-nil (last-fed w k s why waits room)
-pieces-fed (p ∷ ps) why w sound k s bytes later waits room =
+pieces-fed : (room : ℕ) (ps : List Piece) (why : Paused) (w : Witness) → Sound w → (k : ℕ) (s : List ℕ) → AreBytes s → AreBytes (all ps)
+    → (why ≡ wants → Waits w k s) → (onward why why (lastPause why w k s ps) ≡ full → ⊥) → (onward why why (endPause room w k s ps) ≡ full → ⊥)
+    → onward why [] (fedText room w k s ps) ≡ onward why [] (restOfReport (modelOf w) k (s ++ all ps))
+unfolding fedText lastPause endPause flatMap
+pieces-fed room [] why w sound k s bytes later waits fed closed = rw append-nil (last-fed room w sound k s why waits fed closed)
+pieces-fed room (p ∷ ps) why w sound k s bytes later waits fed closed =
     let piece = s ++ p .bytes in
     let piece-bytes = bytes-both s (p .bytes) bytes (bytes-before (p .bytes) (all ps) later) in
     let f = feedCall (p .room) w k piece in
-    let fed = fed-call (p .room) w sound k piece piece-bytes in
+    let is = fed-call (p .room) w sound k piece piece-bytes in
     let left = drop (f .passed) piece in
-    let rest = pieces-fed ps (f .paused) (f .witness) (fed .sound) (f .records) left (drop-bytes (f .passed) piece piece-bytes) (bytes-behind (p .bytes) (all ps) later) (fed .waits) in
-    onward-fed why _ _ _
-    (λ r. ap (λ (x : List ℕ). f .text ++ x) (rest r) ∙ sym (fed .goes-on (all ps)) ∙ ap (restOfReport (modelOf w) k) (append-assoc s (p .bytes) (all ps)))
-    room
+    let rest = pieces-fed room ps (f .paused) (f .witness) (is .sound) (f .records) left (drop-bytes (f .passed) piece piece-bytes) (bytes-behind (p .bytes) (all ps) later) (is .waits) in
+    onward-fed why _ _ _ _
+    (λ r c. ap (λ (x : List ℕ). f .text ++ x) (rest r c) ∙ sym (is .goes-on (all ps)) ∙ ap (restOfReport (modelOf w) k) (append-assoc s (p .bytes) (all ps)))
+    fed closed
 
 -- ---- from the beginning
-
--- a right header has a name of 32 bytes
-name-length : (log name : List ℕ) → header log ≡ answer name → length name ≡ 32
-unfolding header
-name-length log name e =
-    let r1 = row-passes 1 _ _ name e in
-    let r2 = row-passes 2 _ _ name (r1 .rest) in
-    let r3 = row-passes 3 _ _ name (r2 .rest) in
-    let long : 37 ≤ length log = ltb-false (length log) 37 (r1 .clear) in
-    let same : part 5 32 log ≡ name = cc (r3 .rest) in
-    sym (ap length same) ∙ length-take 32 (drop 5 log) ∙ omega (arith, length-drop 5 log, long)
 
 empty-sound : (name : List ℕ) → length name ≡ 32 → Sound (emptyWitness name)
 empty-sound name long = record { typed = empty-typed name long; good = subst (λ (m : Model). WellFormed rootHeight m) (sym (empty-model name long)) (start-good name) }
@@ -98,12 +108,112 @@ report-is-rest : (log name : List ℕ) → header log ≡ answer name → restOf
 unfolding restOfReport report reportBody reportRun
 report-is-rest log name e = ap (reportBody (drop 37 log)) (sym e)
 
+report-is-stop : (log : List ℕ) (n : ℕ) → header log ≡ refused n → stoppedLine n 0 ≡ report log
+unfolding report reportBody
+report-is-stop log n e = ap (reportBody (drop 37 log)) (sym e)
+
+-- the first piece has the header, or is the log and the last piece
+abbrev Heads : Bool → List ℕ → List ℕ → Type 0
+Heads last first later = (37 ≤ length first) ⊎ ((last ≡ true) × (later ≡ []))
+
+module _ (last : Bool) (first later : List ℕ) where
+  -- `open` waits for no more
+  not-short : Heads last first later → (ltb (length first) 37 && not last) ≡ false
+  not-short h = ⊎-elim (λ (long : 37 ≤ length first). rw (le-ltb (length first) 37 long)) (λ (whole : (last ≡ true) × (later ≡ [])). rw (whole .0) (and-false (ltb (length first) 37))) h
+    where
+      and-false : (b : Bool) → (b && false) ≡ false
+      and-false true = refl
+      and-false false = refl
+
+  same-header : Heads last first later → header first ≡ header (first ++ later)
+  same-header h = ⊎-elim (λ (long : 37 ≤ length first). sym (header-in-piece first later long)) (λ (whole : (last ≡ true) × (later ≡ [])). ap header (sym (append-nil first) ∙ ap (λ (l : List ℕ). first ++ l) (sym (whole .1)))) h
+
+  opened-is : (room : ℕ) (w : Witness) → Heads last first later → lineRoom ≤ room → openCall last room w first ≡ headed w (header (first ++ later))
+  unfolding openCall
+  opened-is room w h has-room =
+      ap (λ (b : Bool). cond b (pausedAt [] wants w 0) (cond (ltb room lineRoom) (pausedAt [] full w 0) (headed w (header first)))) (not-short h)
+      ∙ ap (λ (b : Bool). cond b (pausedAt [] full w 0) (headed w (header first))) (le-ltb room lineRoom has-room)
+      ∙ ap (headed w) (same-header h)
+
+-- what is written from `open` on, by what it came to
+module _ (room : ℕ) (first : List ℕ) (ps : List Piece) where
+  abbrev from : Feeding → List ℕ
+  from f = f .text ++ onward (f .paused) [] (fedText room (f .witness) (f .records) (drop (f .passed) first) ps)
+
+  abbrev lasts : Feeding → Paused
+  lasts f = onward (f .paused) (f .paused) (lastPause full (f .witness) (f .records) (drop (f .passed) first) ps)
+
+  abbrev closes : Feeding → Paused
+  closes f = onward (f .paused) (f .paused) (endPause room (f .witness) (f .records) (drop (f .passed) first) ps)
+
+  first-long : (last : Bool) → Heads last first (all ps) → (name : List ℕ) → header (first ++ all ps) ≡ answer name → 37 ≤ length first
+  first-long last h name e =
+      ⊎-elim (λ (long : 37 ≤ length first). long)
+      (λ (whole : (last ≡ true) × (all ps ≡ [])). omega (arith, header-long (first ++ all ps) name e, length-append first (all ps), ap length (whole .1))) h
+
+  by-header : (last : Bool) → Heads last first (all ps) → (w : Witness) (h : Answer (List ℕ)) → AreBytes (first ++ all ps) → header (first ++ all ps) ≡ h → (lasts (headed w h) ≡ full → ⊥) → (closes (headed w h) ≡ full → ⊥)
+      → from (headed w h) ≡ report (first ++ all ps)
+  unfolding headed onward
+  by-header last heads w (refused n) bytes e fed closed = append-nil (stoppedLine n 0) ∙ report-is-stop (first ++ all ps) n e
+  by-header last heads w (answer name) bytes e fed closed =
+      let long = header-name (first ++ all ps) name e in
+      let v = emptyWitness name in
+      let left = drop 37 first in
+      let inside : 37 ≤ length first = first-long last heads name e in
+      pieces-fed room ps full v (empty-sound name long) 0 left (drop-bytes 37 first (bytes-before first (all ps) bytes)) (bytes-behind first (all ps) bytes) (λ p. let z : _≡_ {A = ℕ} 0 1 = cc in absurd (omega arith)) fed closed
+      ∙ ap₂ (λ (m : Model) (l : List ℕ). restOfReport m 0 l) (empty-model name long) (sym (drop-append-le 37 first (all ps) inside))
+      ∙ report-is-rest (first ++ all ps) name e
+
 pub in-pieces : InPieces
-unfolding onward endText
-in-pieces log name bytes e ps is room =
-    let long = name-length log name e in
-    let w = emptyWitness name in
-    let none : AreBytes [] = λ i h. absurd (omega arith) in
-    pieces-fed ps wants w (empty-sound name long) 0 [] none (subst AreBytes is (drop-bytes 37 log bytes)) (λ p. rest-ends (modelOf w) 0) room
-    ∙ ap₂ (λ (m : Model) (l : List ℕ). restOfReport m 0 l) (empty-model name long) (sym is)
-    ∙ report-is-rest log name e
+in-pieces log bytes room w last first ps is heads has-room (fed, closed) =
+    let cut = first .bytes ++ all ps in
+    let is-headed = opened-is last (first .bytes) (all ps) (first .room) w heads has-room in
+    ap (from room (first .bytes) ps) is-headed
+    ∙ by-header room (first .bytes) ps last heads w (header cut) (subst AreBytes is bytes) refl
+    (subst (λ (f : Feeding). lasts room (first .bytes) ps f ≡ full → ⊥) is-headed fed)
+    (subst (λ (f : Feeding). closes room (first .bytes) ps f ≡ full → ⊥) is-headed closed)
+    ∙ ap report (sym is)
+
+-- ---- with room for a line, a record is passed
+
+ne-full-halted : (a : Answer Change) (w : Witness) (k : ℕ) → halted a w k .paused ≡ full → ⊥
+unfolding halted
+ne-full-halted (refused n) w k e = go (eqb n 4) e
+  where
+    go : (b : Bool) → cond b (pausedAt (stoppedLine 4 k) ended w k) (pausedAt [] wants w k) .paused ≡ full → ⊥
+    go true e = let z : _≡_ {A = ℕ} 0 1 = cc in absurd (omega arith)
+    go false e = let z : _≡_ {A = ℕ} 0 1 = cc in absurd (omega arith)
+ne-full-halted (answer c) w k e = let z : _≡_ {A = ℕ} 0 1 = cc in absurd (omega arith)
+
+-- one reading of the call's first record
+module _ (n room : ℕ) (w : Witness) (k : ℕ) (s : List ℕ) where
+  abbrev a : Answer Change
+  a = decide (modelOf w) s
+
+  first-passed : (ltb room lineRoom || eqb k lastNumber) ≡ false → feedFrom (suc n) room w k s .paused ≡ full → 0 < feedFrom (suc n) room w k s .passed
+  unfolding feedFrom
+  first-passed goes e = go (ltb room lineRoom || eqb k lastNumber) (eqb (recordLength s) 0) goes refl e
+    where
+      later : Feeding
+      later = feedFrom n (room - length (outcomeLine k a)) (store w a) (k + 1) (drop (recordLength s) s)
+
+      go : (no-room none : Bool) → no-room ≡ false → eqb (recordLength s) 0 ≡ none
+          → cond no-room (pausedAt [] full w k) (cond none (halted a w k) (ahead (outcomeLine k a) (recordLength s) later)) .paused ≡ full
+          → 0 < cond no-room (pausedAt [] full w k) (cond none (halted a w k) (ahead (outcomeLine k a) (recordLength s) later)) .passed
+      go true none r e p = clash refl r
+      go false true r e p = absurd (ne-full-halted a w k p)
+      go false false r e p = omega (arith, eqb-false (recordLength s) 0 e)
+
+pub feed-goes-on : FeedGoesOn
+unfolding feedCall onSound
+feed-goes-on room w k s has-room number = go (sound? w)
+  where
+    goes : (ltb room lineRoom || eqb k lastNumber) ≡ false
+    goes = rw (le-ltb room lineRoom has-room) (ne-eqb k lastNumber (λ e. omega (arith, e, number)))
+
+    go : (b : Bool) → cond b (feedFrom (length s + 1) room w k s) (pausedAt [] (refusedBy 40) w k) .paused ≡ full
+        → 0 < cond b (feedFrom (length s + 1) room w k s) (pausedAt [] (refusedBy 40) w k) .passed
+    go true e =
+        let one : length s + 1 ≡ suc (length s) = omega arith in
+        subst (λ (n : ℕ). feedFrom n room w k s .paused ≡ full → 0 < feedFrom n room w k s .passed) (sym one) (first-passed (length s) room w k s goes) e
+    go false e = let z : _≡_ {A = ℕ} 0 1 = cc in absurd (omega arith)

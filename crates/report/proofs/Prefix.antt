@@ -13,7 +13,6 @@ use Rattle.model.specs.Decide.{decide}
 use Rattle.model.specs.Log.{Record, memberRecord, checkpointRecord, voteRecord, header, recordSize, recordLength, decode, decodeWhole}
 use Rattle.model.specs.Model.{Model}
 use Rattle.model.proofs.Lists.{clash}
-use Rattle.report.specs.Pieces.{HeaderInPiece}
 
 module _ (at k : ℕ) (s t : List ℕ) (fits : at + k ≤ length s) where
   part-front : part at k (s ++ t) ≡ part at k s
@@ -26,7 +25,8 @@ module _ (at k : ℕ) (s t : List ℕ) (fits : at + k ≤ length s) where
 still-long : (n : ℕ) (s t : List ℕ) → n ≤ length s → ltb (length (s ++ t)) n ≡ false
 still-long n s t h = le-ltb (length (s ++ t)) n (omega (arith, length-append s t))
 
-pub header-in-piece : HeaderInPiece
+-- the header is read from any first piece that holds it
+pub header-in-piece : (s t : List ℕ) → 37 ≤ length s → header (s ++ t) ≡ header s
 unfolding header
 header-in-piece s t h =
     rw (still-long 37 s t h, le-ltb (length s) 37 h, take-append-le 3 s t (omega arith), field-front 3 2 s t (omega arith), part-front 5 32 s t (omega arith))

@@ -1,12 +1,13 @@
 -- What a reading told says what was decided: the line of a record that is passed, and where one cannot be.
 use Prim.Native.Nat.{ℕ, _+_, _≤_}
 use native.Mathlib.Omega.{arith}
-use mathlib.Core.Path.{_≡_, refl, sym, ap, _∙_, subst}
+use mathlib.Core.Path.{_≡_, refl, sym, ap, ap₂, _∙_, subst}
 use mathlib.Core.List.{List, []}
 use mathlib.Core.Bool.{Bool, true, false, cond}
 use borrow.Author.Tests.{eq-eqb, ne-eqb}
 use lib.Dec.{eqb}
-use lib.ListN.{length}
+use lib.ListN.{length, take, drop}
+use lib.Seq.{take-at}
 use Rattle.model.specs.Answer.{Answer, refused, answer}
 use Rattle.model.specs.Model.{Change, nothing, addMember, addCheckpoint, addVote}
 use Rattle.model.specs.Report.{stops?, stoppedLine, refusedLine, outcomeLine}
@@ -69,3 +70,9 @@ pub paused-fed : {f : Feeding} (w : Witness) (k next at : ℕ) (text before afte
 paused-fed w k next at text before after why {n} e put =
     subst (λ (g : Feeding). IsFed g next at before (record { pause = why; next = next; records = k; written = n; witness = w }) after) e
     (record { pause = refl; next = omega arith; records = refl; witness = refl; text = put })
+
+-- a text at a buffer's start can be read back
+pub text-is : {l m a : List ℕ} {n : ℕ} → Put l 0 a m n → take n m ≡ a
+text-is {l} {m} {a} {n} put =
+    let end : n ≡ length a = omega (arith, put .past) in
+    ap₂ take end (put .left) ∙ take-at a (drop (0 + length a) l) (length a) refl

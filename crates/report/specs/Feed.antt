@@ -2,7 +2,7 @@
 use Prim.Native.Nat.{ℕ, zero, suc, _+_, _-_}
 use mathlib.Core.Path.{_≡_}
 use mathlib.Core.List.{List, [], _++_}
-use mathlib.Core.Bool.{cond, _||_}
+use mathlib.Core.Bool.{Bool, cond, not, _&&_, _||_}
 use lib.Dec.{eqb, ltb}
 use lib.ListN.{length, drop}
 use Rattle.model.specs.Answer.{Answer, refused, answer}
@@ -79,19 +79,24 @@ unfoldable pub headed : Witness → Answer (List ℕ) → Feeding
 headed w (refused n) = pausedAt (stoppedLine n 0) ended w 0
 headed w (answer name) = record { text = []; paused = wants; passed = 37; records = 0; witness = emptyWitness name }
 
-unfoldable pub openCall : ℕ → Witness → List ℕ → Feeding
-openCall room w log = cond (ltb room lineRoom) (pausedAt [] full w 0) (headed w (header log))
+-- Where fewer bytes than a header's are there, and `last` does not say that no more will come, more are wanted.
+unfoldable pub openCall : Bool → ℕ → Witness → List ℕ → Feeding
+openCall last room w log =
+    cond (ltb (length log) 37 && not last) (pausedAt [] wants w 0)
+    (cond (ltb room lineRoom) (pausedAt [] full w 0)
+    (headed w (header log)))
 
 -- the end of the log, where so many bytes were not passed: a record that stays cut, or the summary
 unfoldable pub endText : Model → ℕ → ℕ → List ℕ
 endText m k left = cond (eqb left 0) (summary m) (stoppedLine 5 k)
 
--- the longest summary has fewer bytes
-abbrev pub summaryRoom : ℕ
-summaryRoom = 65536
+unfoldable pub endFed : ℕ → Witness → ℕ → ℕ → Feeding
+endFed room w k left =
+    let text = endText (modelOf w) k left in
+    cond (ltb room (length text)) (pausedAt [] full w k) (pausedAt text ended w k)
 
 unfoldable pub endCall : ℕ → Witness → ℕ → ℕ → Feeding
-endCall room w k left = onSound w k (cond (ltb room summaryRoom) (pausedAt [] full w k) (pausedAt (endText (modelOf w) k left) ended w k))
+endCall room w k left = onSound w k (endFed room w k left)
 
 abbrev pub pausedOf : Pause → Paused
 pausedOf Wants = wants

@@ -1,19 +1,18 @@
 -- "A log fed in pieces, cut anywhere, gives the report of the whole log": the statement.
-use Prim.Native.Nat.{ℕ, _≤_}
+use Prim.Native.Nat.{ℕ, _≤_, _<_}
 use mathlib.Core.Path.{_≡_}
 use mathlib.Core.List.{List, [], _∷_, _++_, flatMap}
-use mathlib.Core.Bool.{cond}
+use mathlib.Core.Logic.{_⊎_}
+use mathlib.Core.Bool.{Bool, true, cond}
 use lib.ListN.{length, drop}
-use Rattle.model.specs.Answer.{answer}
 use Rattle.model.specs.Bytes.{AreBytes}
 use Rattle.model.specs.Lists.{any}
-use Rattle.model.specs.Log.{header}
 use Rattle.model.specs.Model.{Model}
 use Rattle.model.specs.Report.{report, summary, stops?, outcomeLines}
 use Rattle.model.specs.Run.{after, outcomes, readings}
-use Rattle.state.specs.State.{emptyWitness, modelOf}
+use Rattle.state.specs.State.{modelOf}
 use Rattle.state.specs.declared.Witness.{Witness}
-use Rattle.report.specs.Feed.{Paused, wants, full, ended, refusedBy, feedCall, endText}
+use Rattle.report.specs.Feed.{Paused, wants, full, ended, refusedBy, Feeding, lineRoom, lastNumber, openCall, feedCall, endCall}
 
 -- the rest of a report: record k and those after it, from the bytes s to the log's end or its stop, and the summary
 unfoldable pub restOfReport : Model → ℕ → List ℕ → List ℕ
@@ -33,28 +32,55 @@ onward full none further = further
 onward ended none further = none
 onward (refusedBy n) none further = none
 
--- All that is written by calls of `feed` and a call of `close`: s is what the last call left.
-unfoldable pub fedText : Witness → ℕ → List ℕ → List Piece → List ℕ
-fedText w k s [] = endText (modelOf w) k (length s)
-fedText w k s (p ∷ ps) =
+-- All that is written by calls of `feed` and then one of `close`, which has so much room: s is what the last call left.
+unfoldable pub fedText : ℕ → Witness → ℕ → List ℕ → List Piece → List ℕ
+fedText room w k s [] = endCall room w k (length s) .text
+fedText room w k s (p ∷ ps) =
     let f = feedCall (p .room) w k (s ++ p .bytes) in
-    f .text ++ onward (f .paused) [] (fedText (f .witness) (f .records) (drop (f .passed) (s ++ p .bytes)) ps)
+    f .text ++ onward (f .paused) [] (fedText room (f .witness) (f .records) (drop (f .passed) (s ++ p .bytes)) ps)
 
--- why the last call paused; `why` where there is none
+-- why the last call of `feed` paused; `why` where there is none
 unfoldable pub lastPause : Paused → Witness → ℕ → List ℕ → List Piece → Paused
 lastPause why w k s [] = why
 lastPause why w k s (p ∷ ps) =
     let f = feedCall (p .room) w k (s ++ p .bytes) in
     onward (f .paused) (f .paused) (lastPause (f .paused) (f .witness) (f .records) (drop (f .passed) (s ++ p .bytes)) ps)
 
--- A log with a right header, whose records are fed in pieces, cut anywhere, each with any room: unless the last call paused for
--- want of room, what is written is the report.
+-- why the call of `close` paused
+unfoldable pub endPause : ℕ → Witness → ℕ → List ℕ → List Piece → Paused
+endPause room w k s [] = endCall room w k (length s) .paused
+endPause room w k s (p ∷ ps) =
+    let f = feedCall (p .room) w k (s ++ p .bytes) in
+    onward (f .paused) (f .paused) (endPause room (f .witness) (f .records) (drop (f .passed) (s ++ p .bytes)) ps)
+
+-- The report of a log: `open` on its first bytes, calls of `feed` on what that left and the pieces after it, and `close`.
+module _ (room : ℕ) (w : Witness) (last : Bool) (first : Piece) (ps : List Piece) where
+  abbrev pub opened : Feeding
+  opened = openCall last (first .room) w (first .bytes)
+
+  abbrev pub left : List ℕ
+  left = drop (opened .passed) (first .bytes)
+
+  abbrev pub reportText : List ℕ
+  reportText = opened .text ++ onward (opened .paused) [] (fedText room (opened .witness) (opened .records) left ps)
+
+  -- Neither the last call of `feed`, of which there is one at least, nor `close` paused for want of room.
+  abbrev pub HadRoom : Type 0
+  HadRoom =
+      (onward (opened .paused) (opened .paused) (lastPause full (opened .witness) (opened .records) left ps) ≡ full → ⊥)
+      × (onward (opened .paused) (opened .paused) (endPause room (opened .witness) (opened .records) left ps) ≡ full → ⊥)
+
+-- Any log, right or wrong, in pieces that are cut anywhere, each with any room, whatever witness was handed in first: where the
+-- first piece has the header, or is the log and said to be the last, and no last call paused for want of room, what is
+-- written is the report of the whole log.
 abbrev pub InPieces : Type 0
 InPieces =
-    (log name : List ℕ) → AreBytes log → header log ≡ answer name → (ps : List Piece) → drop 37 log ≡ flatMap (λ p. p .bytes) ps
-    → (lastPause wants (emptyWitness name) 0 [] ps ≡ full → ⊥)
-    → fedText (emptyWitness name) 0 [] ps ≡ report log
+    (log : List ℕ) → AreBytes log → (room : ℕ) (w : Witness) (last : Bool) (first : Piece) (ps : List Piece)
+    → log ≡ first .bytes ++ flatMap (λ p. p .bytes) ps
+    → (37 ≤ length (first .bytes)) ⊎ ((last ≡ true) × (flatMap (λ p. p .bytes) ps ≡ []))
+    → lineRoom ≤ first .room → HadRoom room w last first ps
+    → reportText room w last first ps ≡ report log
 
--- the header is read from any first piece that holds it
-abbrev pub HeaderInPiece : Type 0
-HeaderInPiece = (first later : List ℕ) → 37 ≤ length first → header (first ++ later) ≡ header first
+-- A call of `feed` with room for a line, and a number for a record, does not pause for want of room before it has passed a record.
+abbrev pub FeedGoesOn : Type 0
+FeedGoesOn = (room : ℕ) (w : Witness) (k : ℕ) (s : List ℕ) → lineRoom ≤ room → k < lastNumber → feedCall room w k s .paused ≡ full → 0 < feedCall room w k s .passed

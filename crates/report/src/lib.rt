@@ -17,7 +17,7 @@ ghost use Rattle.model.specs.WellFormed.{WellFormed};
 ghost use Rattle.state.specs.Reading.{outcomeOf};
 ghost use Rattle.state.specs.State.{Typed, modelOf};
 ghost use Rattle.text.specs.Put.{Put};
-ghost use Rattle.report.specs.Feed.{halted, feedFrom, openCall, feedCall, endCall, IsFed};
+ghost use Rattle.report.specs.Feed.{halted, feedFrom, openCall, feedCall, endText, endFed, endCall, IsFed};
 
 // Why a call paused: it wants the next piece; the buffer has no room for a line; the report has ended; or row 40.
 pub enum Pause {
@@ -127,11 +127,20 @@ fn read_on(w: Witness, records: u64, log: &[u8], at: usize, buf: &mut [u8]) -> F
     }
 }
 
-// The log's first bytes, the header among them: rows 1 to 3 end the report. Any witness may be handed in. The records begin
-// at the offset reached.
-pub fn open(w: Witness, log: &[u8], buf: &mut [u8]) -> Fed
-    ensures { λ r. ⌜ IsFed (openCall (length (now (buf .entry))) w (now (log .entry))) 0 0 (now (buf .entry)) r (now (buf .exit)) ⌝ }
+// The log's first bytes, the header among them: rows 1 to 3 end the report. `last` says that the log has no more bytes; where
+// it may have, fewer than a header's are not yet judged. Any witness may be handed in. The records begin at the offset reached.
+pub fn open(w: Witness, log: &[u8], last: bool, buf: &mut [u8]) -> Fed
+    ensures { λ r. ⌜ IsFed (openCall last (length (now (buf .entry))) w (now (log .entry))) 0 0 (now (buf .entry)) r (now (buf .exit)) ⌝ }
 {
+    if (log.len() < 37) & !last {
+        return Fed {
+            pause: Pause::Wants,
+            next: 0,
+            records: 0,
+            written: 0,
+            witness: w,
+        };
+    }
     if buf.len() < 64 {
         return Fed {
             pause: Pause::Full,
@@ -183,6 +192,43 @@ pub fn feed(w: Witness, records: u64, log: &[u8], at: usize, buf: &mut [u8]) -> 
     read_on(w, records, log, at, buf)
 }
 
+// The last text of a report: the line of a record that stays cut, or the summary.
+fn last_text(w: Witness, records: u64, left: usize, text: &mut [u8]) -> usize
+    requires { ⌜ Typed w × WellFormed rootHeight (modelOf w) × (65536 ≤ length (now text)) ⌝ }
+    ensures { λ r. ⌜ Put (now (text .entry)) 0 (endText (modelOf w) records left) (now (text .exit)) r ⌝ }
+{
+    if left == 0 {
+        return summary::summary(w, text);
+    }
+    text::lines::stopped_line(text, 0, Refusal::CutRecord, records)
+}
+
+// The last text, into a buffer that may be too short for it; it is made elsewhere first, so that nothing is written then.
+fn put_end(w: Witness, records: u64, left: usize, buf: &mut [u8]) -> Fed
+    requires { ⌜ Typed w × WellFormed rootHeight (modelOf w) ⌝ }
+    ensures { λ r. ⌜ IsFed (endFed (length (now (buf .entry))) w records left) 0 0 (now (buf .entry)) r (now (buf .exit)) ⌝ }
+{
+    let mut whole = [0u8; 65536];
+    let n = last_text(w, records, left, &mut whole);
+    if buf.len() < n {
+        return Fed {
+            pause: Pause::Full,
+            next: 0,
+            records,
+            written: 0,
+            witness: w,
+        };
+    }
+    let written = text::put(buf, 0, &whole[..n]);
+    Fed {
+        pause: Pause::Ended,
+        next: 0,
+        records,
+        written,
+        witness: w,
+    }
+}
+
 // The end of the log, where `left` of its bytes were not passed: a record that stays cut, or the summary.
 pub fn close(w: Witness, records: u64, left: usize, buf: &mut [u8]) -> Fed
     ensures { λ r. ⌜ IsFed (endCall (length (now (buf .entry))) w records left) 0 0 (now (buf .entry)) r (now (buf .exit)) ⌝ }
@@ -196,26 +242,5 @@ pub fn close(w: Witness, records: u64, left: usize, buf: &mut [u8]) -> Fed
             witness: w,
         };
     }
-    if buf.len() < 65536 {
-        return Fed {
-            pause: Pause::Full,
-            next: 0,
-            records,
-            written: 0,
-            witness: w,
-        };
-    }
-    let mut written: usize = 0;
-    if left == 0 {
-        written = summary::summary(w, buf);
-    } else {
-        written = text::lines::stopped_line(buf, 0, Refusal::CutRecord, records);
-    }
-    Fed {
-        pause: Pause::Ended,
-        next: 0,
-        records,
-        written,
-        witness: w,
-    }
+    put_end(w, records, left, buf)
 }

@@ -1,14 +1,18 @@
--- The empty witness holds the model's start.
+-- The empty witness of a right header holds the model's start.
 use Prim.Native.Nat.{ℕ, zero, suc, _+_, _*_, _<_, _≤_, _^_}
 use native.Mathlib.Omega.{arith}
 use mathlib.Core.Path.{_≡_, refl, sym, ap, _∙_, subst}
 use mathlib.Core.Logic.{⊎-elim}
 use mathlib.Core.List.{List, [], _∷_}
-use lib.ListN.{length, getD, replicate, length-replicate}
+use borrow.Author.Tests.{ltb-false}
+use lib.ListN.{length, getD, drop, replicate, length-replicate, length-take, length-drop}
 use lib.Seq.{paste, length-paste}
+use Rattle.model.specs.Answer.{answer}
 use Rattle.model.specs.Bytes.{part}
 use Rattle.model.specs.Lists.{tabulate}
+use Rattle.model.specs.Log.{header}
 use Rattle.model.specs.Model.{Model, Checkpoint, start}
+use Rattle.model.proofs.Answer.{row-passes}
 use Rattle.state.specs.State.{Typed, place, height, emptyWitness, modelOf, checkpointIn}
 use Rattle.state.proofs.Store.{paste-new}
 
@@ -54,3 +58,17 @@ empty-typed name long =
           };
       ids = zeros-low 128;
     }
+
+-- a right header is whole, and has a name of 32 bytes
+pub header-long : (log name : List ℕ) → header log ≡ answer name → 37 ≤ length log
+unfolding header
+header-long log name e = ltb-false (length log) 37 (row-passes 1 _ _ name e .clear)
+
+pub header-name : (log name : List ℕ) → header log ≡ answer name → length name ≡ 32
+unfolding header
+header-name log name e =
+    let r1 = row-passes 1 _ _ name e in
+    let r2 = row-passes 2 _ _ name (r1 .rest) in
+    let r3 = row-passes 3 _ _ name (r2 .rest) in
+    let same : part 5 32 log ≡ name = cc (r3 .rest) in
+    sym (ap length same) ∙ length-take 32 (drop 5 log) ∙ omega (arith, length-drop 5 log, header-long log name e)

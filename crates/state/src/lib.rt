@@ -23,6 +23,7 @@ ghost use Rattle.state.specs.Reading.{IsReading, IsBeginning};
 
 // What is held, in arrays: of each, the first so many entries as its count says; what stands past them means nothing.
 // A name is 32 bytes of `names`, at 32 times its place.
+#[repr(C)]
 pub struct Witness {
     pub ids: [u16; 128],
     pub bonds: [u64; 128],

@@ -50,7 +50,7 @@ fn refill(fd: i32, input: &mut [u8], have: usize) -> Filled
 // Moves the bytes from `from` to `have` to the front of the buffer; answers how many they are.
 fn keep(input: &mut [u8], from: usize, have: usize) -> usize
     requires { ⌜ (from ≤ have) × (have ≤ length (now input)) ⌝ }
-    ensures { λ r. ⌜ r ≡ have - from ⌝ }
+    ensures { λ r. ⌜ (r ≡ have - from) × (r ≤ length (now (input .exit))) ⌝ }
 {
     let mut i: usize = 0;
     while from + i < have {
@@ -109,13 +109,13 @@ fn wants_more(p: Pause) -> bool {
 }
 
 // The log's first bytes where none was read yet, else the records that are at hand.
-fn call(w: Witness, begun: bool, records: u64, input: &[u8], output: &mut [u8]) -> Fed
+fn call(w: Witness, begun: bool, records: u64, input: &[u8], at_end: bool, output: &mut [u8]) -> Fed
     ensures { λ r. ⌜ (r .next ≤ length (now (input .entry))) × (r .written ≤ length (now (output .exit))) ⌝ }
 {
     if begun {
         return report::feed(w, records, input, 0, output);
     }
-    report::open(w, input, output)
+    report::open(w, input, at_end, output)
 }
 
 // A witness to be handed in where none is held yet.
@@ -154,17 +154,18 @@ fn advance(t: Turn, lines: bool, input: &mut [u8], output: &mut [u8]) -> Turn
 {
     let held = t.witness;
     let have = t.have;
-    let fed = call(held, t.begun, t.records, &input[..have], output);
+    let fed = call(held, t.begun, t.records, &input[..have], t.at_end, output);
     let pause = fed.pause;
     let stopped = has_ended(pause);
+    let done = stopped | (wants_more(pause) & t.at_end & t.begun);
     let next = fed.next;
     let after = fed.witness;
     let is_told = tell(output, fed.written, lines, stopped);
     let left = keep(input, next, have);
     Turn {
-        more: is_told & !stopped & !(wants_more(pause) & t.at_end),
+        more: is_told & !done,
         fate: fate_of(is_told, stopped),
-        begun: true,
+        begun: t.begun | (0 < next),
         have: left,
         at_end: t.at_end,
         records: fed.records,
@@ -207,7 +208,7 @@ fn top_up(fd: i32, input: &mut [u8], have: usize, at_end: bool) -> Filled
     }
 }
 
-// One turn: a read, and then what is at hand, once that has the header or all there is.
+// One turn: a read, and then what is at hand.
 fn step(fd: i32, t: Turn, lines: bool, input: &mut [u8], output: &mut [u8]) -> Turn
     requires { ⌜ t .have ≤ length (now input) ⌝ }
     ensures { λ r. ⌜ r .have ≤ length (now (input .exit)) ⌝ }
@@ -225,7 +226,6 @@ fn step(fd: i32, t: Turn, lines: bool, input: &mut [u8], output: &mut [u8]) -> T
             witness: held,
         };
     }
-    let ready = t.begun | filled.ended | (37 <= filled.bytes);
     let at_hand = Turn {
         more: true,
         fate: Fate::Whole,
@@ -235,10 +235,7 @@ fn step(fd: i32, t: Turn, lines: bool, input: &mut [u8], output: &mut [u8]) -> T
         records: t.records,
         witness: held,
     };
-    if ready {
-        return advance(at_hand, lines, input, output);
-    }
-    at_hand
+    advance(at_hand, lines, input, output)
 }
 
 // Turn after turn, to the log's end or its stop. A proved loop has to end, and nothing says that a file does: so it counts

@@ -20,17 +20,17 @@ call-requires c κs = search needs
 has-ended-requires : tie.Need-has-ended-requires
 has-ended-requires c κs = search needs
 
+wants-more-requires : tie.Need-wants-more-requires
+wants-more-requires c κs = search needs
+
 tell-requires : tie.Need-tell-requires
 tell-requires c κs = search needs
 
 keep-requires : tie.Need-keep-requires
 keep-requires c κs =
-    let f = c .before .before .before .before .before .before .before in
+    let f = c .before .before .before .before .before .before .before .before .before .before in
     let start = f .before .before .before .before .before .before in
     (omega (arith, f .call .ensures .0, length-take-le (start .args .t .have) (start .args .input .now) (start .pre)), start .pre)
-
-wants-more-requires : tie.Need-wants-more-requires
-wants-more-requires c κs = search needs
 
 fate-of-requires : tie.Need-fate-of-requires
 fate-of-requires c κs = search needs
@@ -42,7 +42,7 @@ same-length-2 : tie.Need-same-length-2
 same-length-2 c = search needs
 
 returns : tie.Need-returns
-returns c = search needs
+returns c = c .before .before .before .before .keep .ensures .1
 
 pub advance-spec : {M : Type 1} → statement M
 advance-spec =
@@ -52,9 +52,9 @@ advance-spec =
     slice-aggregate-call
     call-requires
     has-ended-requires
+    wants-more-requires
     tell-requires
     keep-requires
-    wants-more-requires
     fate-of-requires
     same-length
     same-length-2

@@ -28,7 +28,7 @@ returns-2 : tie.Need-returns-2
 returns-2 c =
     let f = c .before .before in
     let a = f .before .before .before .before .before .args in
-    (omega (arith, f .open .ensures .next, open-passes (length (a .output .now)) (a .w) (a .input .now)), written-fits (f .open .ensures))
+    (omega (arith, f .open .ensures .next, open-passes (a .at-end) (length (a .output .now)) (a .w) (a .input .now)), written-fits (f .open .ensures))
 
 pub call-spec : {M : Type 1} → statement M
 call-spec = tie.close (tie.spec feed-requires same-length returns open-requires same-length-2 returns-2)

@@ -1,0 +1,32 @@
+-- `ffi::ffw_replay` meets its contract: the log's reading, told in numbers. Assumes nothing.
+use mathlib.Core.Path.{ap, _∙_}
+use Rattle.model.specs.Bytes.{part}
+use Rattle.ffi.specs.Numbers.{refusalOf, valueOf, toldNumber}
+use borrow.Author.Needs.{needs}
+use Rattle.ffi.proofs.ffw_replay.Statement.{statement}
+use Rattle.ffi.proofs.ffw_replay.Tie as tie
+
+replay-requires : tie.Need-replay-requires
+replay-requires c κs = search needs
+
+tell-requires : tie.Need-tell-requires
+tell-requires c κs = search needs
+
+start-number-requires : tie.Need-start-number-requires
+start-number-requires c κs = search needs
+
+returns : tie.Need-returns
+returns c =
+    let b = c .before .before .before .before in
+    let is = b .replay .ensures in
+    let told = c .before .tell .ensures in
+    record {
+      header = c .start-number .ensures (part 5 32 (b .before .before .args .log .now)) ∙ ap refusalOf (is .start);
+      refused = told .refused ∙ ap (λ x. refusalOf (x .last)) (is .read);
+      taken = told .taken ∙ ap (λ x. valueOf toldNumber (x .last)) (is .read);
+      records = ap (λ x. x .records) (is .read);
+      witness = ap (λ x. x .witness) (is .read);
+    }
+
+pub ffw-replay-spec : {M : Type 1} → statement M
+ffw-replay-spec = tie.close (tie.spec replay-requires tell-requires start-number-requires returns)

@@ -1,0 +1,120 @@
+// bench: the library's time beside plain Rust's, in one run: both at -O, in turn, the least of several rounds. Times are in
+// microseconds. A call of the library that takes a state checks it first (row 40); where a line says so that check's
+// own time is taken off.
+#[allow(dead_code)]
+mod library;
+#[allow(dead_code)]
+mod logs;
+mod plain;
+#[allow(dead_code)]
+mod random;
+#[allow(dead_code)]
+mod reference;
+#[allow(dead_code)]
+mod session;
+#[allow(dead_code)]
+mod states;
+
+use std::hint::black_box;
+use std::time::Instant;
+
+const ROUNDS: usize = 15;
+
+// So many votes more than a witness holds: each is searched for like one that is taken, and then refused by row 36. The
+// time of one record into a full witness is the time that a log takes longer with them.
+const MORE: usize = 8000;
+
+// What is timed: a name, and a call.
+type Timed<'a> = (&'static str, Box<dyn FnMut() + 'a>);
+
+// The result is made, and nothing is done with it.
+fn done<T>(result: T) {
+    black_box(result);
+}
+
+// The least time of each in microseconds, each round running all of them in turn.
+fn least(timed: &mut [Timed]) -> Vec<f64> {
+    let mut best = vec![f64::INFINITY; timed.len()];
+    for _ in 0..ROUNDS {
+        for (i, (_, call)) in timed.iter_mut().enumerate() {
+            let start = Instant::now();
+            call();
+            best[i] = best[i].min(start.elapsed().as_secs_f64() * 1e6);
+        }
+    }
+    best
+}
+
+fn line(what: &str, ours: f64, other: &str, theirs: f64) {
+    println!("{what:44} {ours:10.2} {theirs:10.2} {:7.2}  {other}", ours / theirs);
+}
+
+// The report of a log that is there whole and has few refused records: three calls.
+fn report(before: &library::Witness, log: &[u8], lines: &mut [u8]) -> Vec<u8> {
+    let opened = before.open(log, false, lines);
+    let fed = opened.witness.feed(opened.records, log, opened.next, lines);
+    let mut text = lines[..fed.written].to_vec();
+    let closed = fed.witness.close(fed.records, log.len() - fed.next, lines);
+    text.extend(&lines[..closed.written]);
+    text
+}
+
+fn main() {
+    session::check();
+    let full = logs::full_log(1, 4096);
+    let nearly = &full[..full.len() - 75];
+    let further = logs::full_log(1, 4095 + MORE);
+    let nothing = library::Witness::nothing();
+    let held = nothing.replay(&full).witness;
+    let hashed = reference::read_log(&full).witness;
+    let almost = nothing.replay(nearly).witness;
+    let list = hashed.list();
+    assert!(held.vote_count == 4096 && held.checkpoint_count == 512 && held.member_count == 128);
+    assert!(further.len() == nearly.len() + 75 * MORE && hashed.votes.len() == 4096 && list.len() > 7);
+    assert!(report(&nothing, &full, &mut vec![0; 65536]) == reference::report(&full).into_bytes());
+    let mut place = library::Witness::nothing();
+    let mut second = library::Witness::nothing();
+    assert!(plain::read_log(&mut place, &full) == 0 && *place == held && plain::is_sound(&held) && states::is_sound(&held));
+    let mut buffer = vec![0; 1000];
+    let mut lines = vec![0; 65536];
+
+    let mut timed: Vec<Timed> = vec![
+        ("ours: log", Box::new(|| done(nothing.replay(black_box(nearly))))),
+        ("ours: log and more", Box::new(|| done(nothing.replay(black_box(&further))))),
+        ("plain: log", Box::new(|| done(plain::read_log(&mut place, black_box(nearly))))),
+        ("plain: log and more", Box::new(|| done(plain::read_log(&mut second, black_box(&further))))),
+        ("hashed: log", Box::new(|| done(reference::read_log(black_box(nearly))))),
+        ("hashed: log and more", Box::new(|| done(reference::read_log(black_box(&further))))),
+        ("ours: report", Box::new(|| done(report(&nothing, black_box(&full), &mut lines)))),
+        ("hashed: report", Box::new(|| done(reference::report(black_box(&full))))),
+        ("ours: row 40", Box::new(|| done(black_box(&held).is_sound()))),
+        ("plain: row 40", Box::new(|| done(plain::is_sound(black_box(&held))))),
+        ("hashed: row 40", Box::new(|| done(states::is_sound(black_box(&held))))),
+        ("ours: standing", Box::new(|| done(black_box(&held).status(511)))),
+        ("hashed: standings", Box::new(|| done(black_box(&hashed).statuses()))),
+        ("ours: check", Box::new(|| done(black_box(&held).check(&list)))),
+        ("hashed: check", Box::new(|| done(black_box(&hashed).check(&list)))),
+        ("ours: list", Box::new(|| done(black_box(&held).write_list(&mut buffer)))),
+        ("hashed: list", Box::new(|| done(black_box(&hashed).list()))),
+        ("ours: one record", Box::new(|| done(black_box(&almost).read(&full, nearly.len())))),
+        ("ours: row 40, one vote less", Box::new(|| done(black_box(&almost).is_sound()))),
+    ];
+    let names: Vec<&str> = timed.iter().map(|(name, _)| *name).collect();
+    let best = least(&mut timed);
+    let t = |name: &str| best[names.iter().position(|n| *n == name).expect("it is timed")];
+    let each = |who: &str| (t(&format!("{who}: log and more")) - t(&format!("{who}: log"))) / MORE as f64;
+
+    println!("{:44} {:>10} {:>10} {:>7}  beside", "128 members, 512 checkpoints, 4,096 votes", "ours", "theirs", "ratio");
+    line("the log to its report, row 40 with it", t("ours: report"), "the reference", t("hashed: report"));
+    line("the log, read whole", t("ours: log"), "plain Rust, in place", t("plain: log"));
+    line("the log, read whole", t("ours: log"), "the reference", t("hashed: log"));
+    line("a record into a full witness, no row 40", each("ours"), "plain Rust, in place", each("plain"));
+    line("a record into a full witness, no row 40", each("ours"), "the reference", each("hashed"));
+    line("row 40", t("ours: row 40"), "plain Rust, arrays", t("plain: row 40"));
+    line("row 40", t("ours: row 40"), "hash sets", t("hashed: row 40"));
+    line("a record, row 40 with it", t("ours: one record"), "plain Rust, arrays", t("plain: row 40") + each("plain"));
+    line("all standings, less row 40", t("ours: standing") - t("ours: row 40"), "the reference", t("hashed: standings"));
+    line("a list's check, row 40 with it", t("ours: check"), "the reference", t("hashed: check") + t("hashed: row 40"));
+    line("our list, less row 40", t("ours: list") - t("ours: row 40"), "the reference", t("hashed: list"));
+    println!("a record by a call of its own: {:.2} of which row 40 {:.2}", t("ours: one record"), t("ours: row 40, one vote less"));
+}

@@ -1,0 +1,212 @@
+// The library beside the reference: everything that is asked of a log, of a list of charges and of a state. A difference
+// is told with both answers.
+use crate::library::{self, REFUSED};
+use crate::random::Random;
+use crate::reference::{self, Reading, Refusal, Status, HEADER};
+use crate::report;
+use crate::states;
+use crate::tally::Tally;
+use std::fmt::Debug;
+
+pub type Same = Result<(), String>;
+
+pub fn same<T: PartialEq + Debug>(what: &str, library: T, reference: T) -> Same {
+    if library == reference {
+        return Ok(());
+    }
+    Err(format!("{what}\n  library:   {library:?}\n  reference: {reference:?}"))
+}
+
+// Logs with more records, and states with more votes, than these are asked about in samples.
+const MANY_RECORDS: usize = 60;
+const MANY_VOTES: usize = 1000;
+
+// All about one log. The state that the header meets is `before`; what the log leaves is given back.
+pub fn log(log: &[u8], before: &library::Witness, random: &mut Random, tally: &mut Tally) -> Result<Box<library::Replay>, String> {
+    let reading = reference::read_log(log);
+    tally.reading(&reading);
+    let replay = before.replay(log);
+    match reading.stopped {
+        Some((number @ (1 | 2 | 3), _)) => {
+            let number = u64::from(number);
+            same("header", (replay.header, replay.refused, replay.taken, replay.records), (number, 0, 0, 0))?;
+            same("the state that a refused header leaves", replay.witness == *before, true)?;
+            let begun = before.begin(log);
+            same("header, alone", (begun.refused, begun.witness == *before), (number, true))?;
+        }
+        _ => {
+            same("header", replay.header, 0)?;
+            held(&replay.witness, &reading.witness)?;
+            outcomes(log, before, &reading, &replay)?;
+            answers(&replay.witness, &reading.witness, random, tally)?;
+        }
+    }
+    report::compare(log, before, &reading, random)?;
+    Ok(replay)
+}
+
+// What is held: the members as a map, checkpoints and votes in their order.
+fn held(w: &library::Witness, r: &reference::Witness) -> Same {
+    let members: Vec<(u16, u64)> = (0..w.member_count).map(|i| (w.ids[i], w.bonds[i])).collect();
+    same("members held", members.len(), r.bonds.len())?;
+    same("members", members.into_iter().collect(), r.bonds.clone())?;
+    same("checkpoints held", w.checkpoint_count, r.checkpoints.len())?;
+    for (name, place) in &r.places {
+        same("name", &w.names[32 * place..32 * place + 32], &name[..])?;
+    }
+    for (place, c) in r.checkpoints.iter().enumerate() {
+        same("height", w.heights[place], c.height)?;
+        if let Some(parent) = c.parent {
+            same("parent", usize::from(w.parents[place]), parent)?;
+        }
+    }
+    let cast = |i: usize| reference::Vote { member: w.voters[i], source: w.sources[i].into(), target: w.targets[i].into() };
+    same("votes", (0..w.vote_count).map(cast).collect::<Vec<_>>(), r.votes.clone())
+}
+
+// The offset of each record, up to the one that stops the reading.
+fn offsets(log: &[u8]) -> Vec<usize> {
+    let mut all = Vec::new();
+    let mut at = HEADER;
+    while at < log.len() {
+        all.push(at);
+        match reference::record_length(log[at]) {
+            Some(length) if at + length <= log.len() => at += length,
+            _ => break,
+        }
+    }
+    all
+}
+
+// What the last record comes to, of the whole log and of its first half.
+fn last_outcome(before: &library::Witness, log: &[u8], reading: &Reading, whole: &library::Replay, records: usize) -> Same {
+    let half = before.replay_some(log, records as u64 / 2);
+    for (replay, read) in [(whole, records), (&half, records / 2)] {
+        let refused = reading.refused.iter().find(|(number, _)| number + 1 == read).map(|(_, row)| *row);
+        let stopped = reading.stopped.filter(|(_, number)| number + 1 == read).map(|(row, _)| row);
+        let row = refused.or(stopped).unwrap_or(0);
+        let taken = u64::from(read > 0 && row == 0);
+        same("the last record", (replay.records, replay.refused, replay.taken), (read as u64, row.into(), taken))?;
+    }
+    Ok(())
+}
+
+// What each record comes to, one call for each: all of a short log, the last ones of a long one.
+fn outcomes(log: &[u8], before: &library::Witness, reading: &Reading, after: &library::Replay) -> Same {
+    let offsets = offsets(log);
+    last_outcome(before, log, reading, after, offsets.len())?;
+    let first = offsets.len().saturating_sub(MANY_RECORDS);
+    let mut at = offsets.get(first).copied().unwrap_or(log.len());
+    let mut w = Box::new(before.replay(&log[..at]).witness);
+    let mut refused = Vec::new();
+    let mut stopped = None;
+    for number in first..offsets.len() {
+        let r = w.read(log, at);
+        match r.refused as u8 {
+            0 => same("a record that is not refused is taken", r.taken, 1)?,
+            n @ (4 | 5) => stopped = Some((n, number)),
+            n => refused.push((number, n)),
+        }
+        same("offset", r.next, offsets.get(number + 1).copied().unwrap_or(if stopped.is_some() { at } else { log.len() }))?;
+        at = r.next;
+        *w = r.witness;
+    }
+    let expected: Vec<(usize, Refusal)> = reading.refused.iter().copied().filter(|(n, _)| *n >= first).collect();
+    same("refused", refused, expected)?;
+    same("stopped", stopped, reading.stopped)?;
+    same("the state, record by record and at once", *w == after.witness, true)?;
+    for past in [log.len(), log.len() + 1, usize::MAX] {
+        let r = w.read(log, past);
+        same("nothing left", (r.refused, r.taken, r.next, r.witness == *w), (0, 0, past, true))?;
+    }
+    Ok(())
+}
+
+fn status_number(s: Status) -> u64 {
+    match s {
+        Status::Plain => 0,
+        Status::Justified => 1,
+        Status::Final => 2,
+    }
+}
+
+// Standings, backings, the conflict answer, our list and its check.
+fn answers(w: &library::Witness, r: &reference::Witness, random: &mut Random, tally: &mut Tally) -> Same {
+    let count = r.checkpoints.len();
+    let samples = if r.votes.len() > MANY_VOTES { 3 } else { 12 };
+    let places: Vec<usize> = if count <= samples { (0..count).collect() } else { (0..samples).map(|_| random.below(count)).collect() };
+    let statuses = r.statuses();
+    for place in places {
+        same(&format!("standing of {place}"), w.status(place as u16), Ok(status_number(statuses[place])))?;
+    }
+    let past = random.pick(&[count, count + 1, 512, 65535]) as u16;
+    same("standing of a place not held", w.status(past), Err(41))?;
+    tally.refused(41);
+    for _ in 0..samples / 3 {
+        backing(w, r, random)?;
+    }
+    same("conflict", w.conflict(), Ok(u64::from(r.conflict())))?;
+    our_list(w, r, random, tally)
+}
+
+// The backing of a link that has votes, or of any two places, one of them maybe not held.
+fn backing(w: &library::Witness, r: &reference::Witness, random: &mut Random) -> Same {
+    let near = r.checkpoints.len() + usize::from(random.one_in(8));
+    let (mut s, mut t) = (random.below(near), random.below(near));
+    if !r.votes.is_empty() && random.one_in(2) {
+        let v = random.pick(&r.votes);
+        (s, t) = (v.source, v.target);
+    }
+    let expected = if s.max(t) < r.checkpoints.len() {
+        let b = r.backing(s, t);
+        Ok((b.members, b.sum, u64::from(b.enough)))
+    } else {
+        Err(41)
+    };
+    same(&format!("backing of {s} to {t}"), w.support(s as u16, t as u16), expected)
+}
+
+// Our list into buffers of several lengths, every byte of them; and that it passes.
+fn our_list(w: &library::Witness, r: &reference::Witness, random: &mut Random, tally: &mut Tally) -> Same {
+    let length = r.list().len();
+    for room in [length, length - 1, random.below(length), length + random.within(1, 40)] {
+        let mut ours = vec![0xa5; room];
+        let mut theirs = ours.clone();
+        let expected = r.write_list(&mut theirs).map(|n| n as u64);
+        tally.answer(&expected);
+        same(&format!("our list into {room} bytes"), w.write_list(&mut ours), expected)?;
+        same("the buffer", ours, theirs)?;
+    }
+    list(w, r, &r.list(), tally)
+}
+
+// One list of charges against one state.
+pub fn list(w: &library::Witness, r: &reference::Witness, list: &[u8], tally: &mut Tally) -> Same {
+    let expected = r.check(list);
+    tally.answer(&expected);
+    tally.list(&expected);
+    same(&format!("check of {list:02x?}"), w.check(list), expected)
+}
+
+// Row 40 on one state; where it applies, every call says so and leaves everything as it was.
+pub fn state(w: &library::Witness, log: &[u8], list: &[u8], tally: &mut Tally) -> Same {
+    let sound = states::is_sound(w);
+    tally.state(sound);
+    same("row 40", w.is_sound(), sound)?;
+    if sound {
+        return Ok(());
+    }
+    let mut buffer = [0xa5; 1000];
+    let read = w.read(log, HEADER);
+    same("reading", (read.refused, read.taken, read.next, read.witness == *w), (40, 0, HEADER, true))?;
+    let fed = w.feed(7, log, HEADER, &mut buffer);
+    same("feeding", (fed.pause, fed.next, fed.records, fed.written, fed.witness == *w), (REFUSED + 40, HEADER, 7, 0, true))?;
+    let closed = w.close(7, 0, &mut buffer);
+    same("closing", (closed.pause, closed.records, closed.written, closed.witness == *w), (REFUSED + 40, 7, 0, true))?;
+    same("standing", w.status(65535), Err(40))?;
+    same("backing", w.support(0, 65535), Err(40))?;
+    same("conflict", w.conflict(), Err(40))?;
+    same("check", w.check(list), Err(40))?;
+    same("our list", w.write_list(&mut buffer), Err(40))?;
+    same("the buffer", buffer, [0xa5; 1000])
+}

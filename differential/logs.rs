@@ -1,0 +1,563 @@
+// Generated logs: right and wrong, short and long. What the maker believes about a log serves only to make it likely
+// that something happens; what the log says is for the two readers to find out.
+use crate::random::Random;
+use crate::reference::{Name, HEADER, MAX_BOND, MAX_CHECKPOINTS, MAX_MEMBERS, MAX_VOTES};
+
+// How names differ: anywhere, or in one or two bytes alone.
+#[derive(Clone, Copy)]
+enum Naming {
+    Random,
+    LastByte,
+    FirstByte,
+    TwoBytes,
+}
+
+struct Node {
+    name: Name,
+    parent: usize,
+    height: u32,
+}
+
+// A log in the making, with the members, the tree and the votes that it has so far.
+struct Maker {
+    random: Random,
+    log: Vec<u8>,
+    ids: Vec<u16>,
+    tree: Vec<Node>,
+    votes: Vec<(u16, usize, usize)>,
+    naming: Naming,
+    last_record: usize,
+}
+
+// The kinds and the bytes of a record of each.
+const KINDS: [(u8, usize); 3] = [(1, 11), (2, 65), (3, 75)];
+
+// Log number `number` of a seed. Every thirty-second has its last record cut, at each length in turn.
+pub fn log(seed: u64, number: usize) -> Vec<u8> {
+    let mut m = Maker::new(Random::of_case(seed, 1, number as u64));
+    if number % 32 == 5 {
+        return m.cut_log(number / 32);
+    }
+    match m.random.below(100) {
+        0..=3 => return m.wrong_header(),
+        4..=28 => m.mixed(),
+        29..=44 => m.chain(),
+        45..=64 => m.fork(),
+        65..=84 => m.offenders(),
+        85..=89 => m.many_members(),
+        90..=92 => m.long_tree(),
+        93 => m.many_votes(),
+        _ => m.late_source(),
+    }
+    m.damage();
+    m.log
+}
+
+// A short log in which members break the rules: what lists of charges are checked against.
+pub fn log_with_charges(seed: u64, number: usize) -> Vec<u8> {
+    let mut m = Maker::new(Random::of_case(seed, 2, number as u64));
+    match m.random.below(8) {
+        0 => m.mixed(),
+        1 | 2 => m.fork(),
+        _ => m.offenders(),
+    }
+    m.log
+}
+
+// A log that fills the witness: 128 members, 512 checkpoints in three long branches, and `votes` distinct votes. Half of
+// them carry a chain of 16 links with everyone's votes; the others are spread over all checkpoints.
+pub fn full_log(seed: u64, votes: usize) -> Vec<u8> {
+    let mut m = Maker::new(Random::of_case(seed, 3, 0));
+    m.naming = Naming::Random;
+    m.begin();
+    m.fill_members(MAX_MEMBERS);
+    while m.tree.len() < MAX_CHECKPOINTS {
+        let parent = m.tree.len().saturating_sub(3);
+        m.checkpoint(parent);
+    }
+    let ids = m.ids.clone();
+    for step in 0..16 {
+        for id in &ids {
+            m.vote(*id, step * 3, step * 3 + 3);
+        }
+    }
+    while m.votes.len() < votes {
+        m.spread_vote();
+    }
+    m.log
+}
+
+impl Maker {
+    fn new(mut random: Random) -> Maker {
+        let naming = random.pick(&[Naming::Random, Naming::LastByte, Naming::FirstByte, Naming::TwoBytes]);
+        Maker { random, log: Vec::new(), ids: Vec::new(), tree: Vec::new(), votes: Vec::new(), naming, last_record: 0 }
+    }
+
+    // ---- records ----
+
+    fn begin(&mut self) {
+        let root = match self.naming {
+            Naming::Random => self.fresh_name(),
+            _ => [0; 32],
+        };
+        self.log.extend(b"FFW\x00\x01");
+        self.log.extend(root);
+        self.tree.push(Node { name: root, parent: 0, height: 0 });
+        self.last_record = HEADER;
+    }
+
+    // A name that is most likely not in the tree yet.
+    fn fresh_name(&mut self) -> Name {
+        let mut name = [0; 32];
+        let number = (self.tree.len() as u16).to_be_bytes();
+        match self.naming {
+            Naming::Random => name.copy_from_slice(&self.random.bytes(32)),
+            Naming::LastByte => name[30..].copy_from_slice(&number),
+            Naming::FirstByte => name[..2].copy_from_slice(&[number[1], number[0]]),
+            Naming::TwoBytes => (name[0], name[31]) = (number[0], number[1]),
+        }
+        name
+    }
+
+    fn put_member(&mut self, id: u16, bond: u64) {
+        self.last_record = self.log.len();
+        self.log.push(1);
+        self.log.extend(id.to_be_bytes());
+        self.log.extend(bond.to_be_bytes());
+    }
+
+    fn put_checkpoint(&mut self, name: Name, parent: Name) {
+        self.last_record = self.log.len();
+        self.log.push(2);
+        self.log.extend(name);
+        self.log.extend(parent);
+    }
+
+    fn put_vote(&mut self, id: u16, source: (Name, u32), target: (Name, u32)) {
+        self.last_record = self.log.len();
+        self.log.push(3);
+        self.log.extend(id.to_be_bytes());
+        self.log.extend(source.0);
+        self.log.extend(target.0);
+        self.log.extend(source.1.to_be_bytes());
+        self.log.extend(target.1.to_be_bytes());
+    }
+
+    fn member(&mut self, id: u16, bond: u64) {
+        self.put_member(id, bond);
+        self.ids.push(id);
+    }
+
+    // A new checkpoint under a place of the tree.
+    fn checkpoint(&mut self, parent: usize) -> usize {
+        let name = self.fresh_name();
+        let above = self.tree[parent].name;
+        let height = self.tree[parent].height + 1;
+        self.put_checkpoint(name, above);
+        self.tree.push(Node { name, parent, height });
+        self.tree.len() - 1
+    }
+
+    fn at(&self, place: usize) -> (Name, u32) {
+        (self.tree[place].name, self.tree[place].height)
+    }
+
+    fn vote(&mut self, id: u16, source: usize, target: usize) {
+        let (s, t) = (self.at(source), self.at(target));
+        self.put_vote(id, s, t);
+        self.votes.push((id, source, target));
+    }
+
+    // ---- parts of a log ----
+
+    fn small_bond(&mut self) -> u64 {
+        match self.random.below(8) {
+            0 => MAX_BOND,
+            1 => self.random.within(1, 1000) as u64,
+            _ => self.random.within(1, 4) as u64,
+        }
+    }
+
+    fn some_id(&mut self) -> u16 {
+        match self.random.below(10) {
+            0 => 0,
+            1 => 65535,
+            2 => self.random.next() as u16,
+            _ => self.random.within(1, 40) as u16,
+        }
+    }
+
+    fn members(&mut self, count: usize) {
+        let alike = self.random.one_in(2);
+        for _ in 0..count {
+            let id = self.some_id();
+            let bond = if alike { 1 } else { self.small_bond() };
+            if !self.ids.contains(&id) {
+                self.member(id, bond);
+            }
+        }
+    }
+
+    // Exactly so many members, with distinct ids in no order.
+    fn fill_members(&mut self, count: usize) {
+        let step = self.random.pick(&[1, 3, 257, 511]);
+        for i in 0..count {
+            let bond = self.random.pick(&[1, 2, 3, MAX_BOND]);
+            self.member((i as u16 ^ 0x55).wrapping_mul(step), bond);
+        }
+    }
+
+    // A tree: deep, wide, or anyhow.
+    fn tree(&mut self, count: usize) {
+        let shape = self.random.below(4);
+        for _ in 0..count {
+            let last = self.tree.len() - 1;
+            let parent = match shape {
+                0 => last,
+                1 => self.random.below(last.min(2) + 1),
+                2 => last - self.random.below(last.min(3) + 1),
+                _ => self.random.below(last + 1),
+            };
+            self.checkpoint(parent);
+        }
+    }
+
+    fn ancestors(&self, mut place: usize) -> Vec<usize> {
+        let mut all = Vec::new();
+        while place != 0 {
+            place = self.tree[place].parent;
+            all.push(place);
+        }
+        all
+    }
+
+    // A link: a place that is not the root, and an ancestor of it.
+    fn some_link(&mut self) -> Option<(usize, usize)> {
+        if self.tree.len() < 2 {
+            return None;
+        }
+        let target = self.random.within(1, self.tree.len() - 1);
+        let above = self.ancestors(target);
+        let source = if self.random.one_in(3) { above[0] } else { self.random.pick(&above) };
+        Some((source, target))
+    }
+
+    // Votes of all members for one link, or of most of them.
+    fn push(&mut self, source: usize, target: usize) {
+        let absent = self.random.pick(&[1000, 8, 3]);
+        for id in self.ids.clone() {
+            if !self.random.one_in(absent) {
+                self.vote(id, source, target);
+            }
+        }
+    }
+
+    fn votes(&mut self, count: usize) {
+        for _ in 0..count {
+            if self.ids.is_empty() {
+                return;
+            }
+            let id = self.random.pick(&self.ids);
+            if let Some((s, t)) = self.some_link() {
+                self.vote(id, s, t);
+            }
+        }
+    }
+
+    // So many distinct votes, with every link of some members in turn.
+    fn fill_votes(&mut self, count: usize) {
+        let mut left = count;
+        for target in (1..self.tree.len()).cycle() {
+            for (step, source) in self.ancestors(target).into_iter().enumerate() {
+                let share = 8 >> step.min(3);
+                for k in 0..share {
+                    if left == 0 {
+                        return;
+                    }
+                    let id = self.ids[(target * 8 + k * 7 + step) % self.ids.len()];
+                    self.vote(id, source, target);
+                    left -= 1;
+                }
+            }
+        }
+    }
+
+    // A vote for any link, unless it is there already.
+    fn spread_vote(&mut self) {
+        let target = self.random.within(1, self.tree.len() - 1);
+        let above = self.ancestors(target);
+        let vote = (self.random.pick(&self.ids), self.random.pick(&above), target);
+        if !self.votes.contains(&vote) {
+            self.vote(vote.0, vote.1, vote.2);
+        }
+    }
+
+    // A record that most likely is refused.
+    fn odd_record(&mut self) {
+        match self.random.below(14) {
+            0 => self.odd_member(),
+            1 => {
+                let (name, parent) = (self.known_name(), self.known_name());
+                self.put_checkpoint(name, parent);
+            }
+            2 => {
+                let (name, parent) = (self.strange_name(), self.strange_name());
+                self.put_checkpoint(name, parent);
+            }
+            3 => {
+                if let Some((id, s, t)) = self.some_vote() {
+                    self.vote(id, s, t);
+                }
+            }
+            _ => self.odd_vote(),
+        }
+    }
+
+    fn odd_member(&mut self) {
+        let id = if self.ids.is_empty() || self.random.one_in(2) { self.some_id() } else { self.random.pick(&self.ids) };
+        let bond = self.random.pick(&[0, 1, 5, MAX_BOND, MAX_BOND + 1, u64::MAX]);
+        self.put_member(id, bond);
+    }
+
+    fn some_vote(&mut self) -> Option<(u16, usize, usize)> {
+        if self.votes.is_empty() { None } else { Some(self.random.pick(&self.votes)) }
+    }
+
+    fn known_name(&mut self) -> Name {
+        let place = self.random.below(self.tree.len());
+        self.tree[place].name
+    }
+
+    // A name that differs from a known one in a byte.
+    fn strange_name(&mut self) -> Name {
+        let mut name = self.known_name();
+        name[self.random.pick(&[0, 1, 15, 30, 31])] ^= 1 << self.random.below(8);
+        name
+    }
+
+    // A vote with one or two things changed.
+    fn odd_vote(&mut self) {
+        let mut id = if self.ids.is_empty() { 9 } else { self.random.pick(&self.ids) };
+        let (s, t) = (self.random.below(self.tree.len()), self.random.below(self.tree.len()));
+        let (mut source, mut target) = (self.at(s), self.at(t));
+        for _ in 0..self.random.below(3) {
+            match self.random.below(7) {
+                0 => id = self.some_id(),
+                1 => source.0 = self.strange_name(),
+                2 => target.0 = self.strange_name(),
+                3 => source.1 = source.1.wrapping_add(self.random.pick(&[1, 256, u32::MAX])),
+                4 => target.1 = target.1.wrapping_add(self.random.pick(&[1, 256, u32::MAX])),
+                5 => target = source,
+                _ => (source, target) = (target, source),
+            }
+        }
+        self.put_vote(id, source, target);
+    }
+
+    // ---- logs ----
+
+    // Anything in any order.
+    fn mixed(&mut self) {
+        self.begin();
+        let members = self.random.below(8);
+        self.members(members);
+        for _ in 0..self.random.below(60) {
+            match self.random.below(10) {
+                0..=2 => {
+                    let parent = self.random.below(self.tree.len());
+                    self.checkpoint(parent);
+                }
+                3..=5 => self.votes(1),
+                6 => {
+                    if let Some((s, t)) = self.some_link() {
+                        self.push(s, t);
+                    }
+                }
+                _ => self.odd_record(),
+            }
+        }
+    }
+
+    // A chain whose checkpoints are justified one after the other, sometimes over a gap.
+    fn chain(&mut self) {
+        self.begin();
+        let members = self.random.within(1, 9);
+        self.members(members);
+        let mut source = 0;
+        for _ in 0..self.random.within(1, 12) {
+            let mut target = self.checkpoint(source);
+            while self.random.one_in(4) {
+                target = self.checkpoint(target);
+            }
+            if self.random.one_in(6) {
+                self.checkpoint(source);
+            }
+            self.push(source, target);
+            source = target;
+        }
+        let extra = self.random.below(6);
+        self.votes(extra);
+    }
+
+    // Two branches that go on separately, both carried: finals at equal and at different heights.
+    fn fork(&mut self) {
+        self.begin();
+        let members = self.random.within(1, 7);
+        self.members(members);
+        let mut stem = 0;
+        for _ in 0..self.random.below(4) {
+            let next = self.checkpoint(stem);
+            self.push(stem, next);
+            stem = next;
+        }
+        for _ in 0..2 {
+            let mut tip = stem;
+            for _ in 0..self.random.within(1, 5) {
+                let next = self.checkpoint(tip);
+                self.push(tip, next);
+                tip = next;
+            }
+        }
+        for _ in 0..self.random.below(3) {
+            self.odd_record();
+        }
+    }
+
+    // Few members and a chain with side branches: double votes, and votes around votes, in both orders.
+    fn offenders(&mut self) {
+        self.begin();
+        let members = self.random.within(1, 12);
+        self.members(members);
+        let count = self.random.within(2, 14);
+        self.tree(count);
+        let votes = self.random.below(60);
+        self.votes(votes);
+    }
+
+    // The table of members, to its end and past it.
+    fn many_members(&mut self) {
+        self.begin();
+        let count = self.random.pick(&[20, 127, 128, 129, 131]);
+        self.fill_members(count);
+        self.odd_member();
+        let length = self.random.below(20);
+        self.tree(length);
+        for _ in 0..self.random.below(3) {
+            if let Some((s, t)) = self.some_link() {
+                self.push(s, t);
+            }
+        }
+    }
+
+    // The table of checkpoints, to its end and past it.
+    fn long_tree(&mut self) {
+        self.begin();
+        let members = self.random.within(1, 5);
+        self.members(members);
+        let count = self.random.pick(&[200, MAX_CHECKPOINTS - 1, MAX_CHECKPOINTS, MAX_CHECKPOINTS + 2]);
+        self.tree(count);
+        let votes = self.random.below(100);
+        self.votes(votes);
+        self.odd_record();
+    }
+
+    // The table of votes, to its end and past it.
+    fn many_votes(&mut self) {
+        self.begin();
+        let members = self.random.pick(&[9, 30, 128]);
+        self.fill_members(members);
+        let length = self.random.within(100, 200);
+        self.tree(length);
+        let count = self.random.pick(&[MAX_VOTES / 2, MAX_VOTES, MAX_VOTES + 3]);
+        self.fill_votes(count);
+        self.votes(3);
+    }
+
+    // Votes whose source is justified only by later votes.
+    fn late_source(&mut self) {
+        self.begin();
+        let members = self.random.within(1, 6);
+        self.members(members);
+        let mut links = Vec::new();
+        let mut source = 0;
+        for _ in 0..self.random.within(2, 8) {
+            let target = self.checkpoint(source);
+            links.push((source, target));
+            source = target;
+        }
+        self.random.shuffle(&mut links);
+        for (s, t) in links {
+            self.push(s, t);
+        }
+    }
+
+    // A log below 37 bytes, or with another mark or version.
+    fn wrong_header(&mut self) -> Vec<u8> {
+        self.begin();
+        self.members(2);
+        let mut log = std::mem::take(&mut self.log);
+        match self.random.below(4) {
+            0 => log.truncate(self.random.below(HEADER)),
+            1 => log[self.random.below(3)] ^= 1 << self.random.below(8),
+            2 => log[self.random.within(3, 4)] ^= 1 << self.random.below(8),
+            _ => {
+                log[self.random.below(5)] = self.random.next() as u8;
+                log.truncate(self.random.within(30, 40));
+            }
+        }
+        log
+    }
+
+    // A short log whose last record is cut: case `number` of all kinds and lengths, from the kind byte alone to one byte less.
+    fn cut_log(&mut self, number: usize) -> Vec<u8> {
+        self.begin();
+        self.members(3);
+        let all: Vec<(u8, usize)> = KINDS.iter().flat_map(|(kind, size)| (1..*size).map(|cut| (*kind, cut))).collect();
+        let (kind, cut) = all[number % all.len()];
+        let start = self.log.len();
+        match kind {
+            1 => self.put_member(7, 1),
+            2 => drop(self.checkpoint(0)),
+            _ => self.odd_vote(),
+        }
+        self.log.truncate(start + cut);
+        std::mem::take(&mut self.log)
+    }
+
+    // What may befall a finished log.
+    fn damage(&mut self) {
+        match self.random.below(24) {
+            0 => self.put_member(77, 1),
+            1 => {
+                let kind = self.random_kind();
+                self.log.push(kind);
+            }
+            2 => {
+                let tail = self.random.within(1, 90);
+                let tail = self.random.bytes(tail);
+                self.log.extend(tail);
+            }
+            3 => {
+                let end = self.log.len();
+                let length = if self.last_record < end { self.random.within(self.last_record, end) } else { end };
+                self.log.truncate(length);
+            }
+            4 | 5 => {
+                for _ in 0..self.random.within(1, 3) {
+                    let at = self.random.below(self.log.len());
+                    self.log[at] ^= 1 << self.random.below(8);
+                }
+            }
+            6 => {
+                let kind = self.random_kind();
+                let at = self.last_record.min(self.log.len() - 1);
+                self.log[at] = kind;
+            }
+            _ => {}
+        }
+    }
+
+    fn random_kind(&mut self) -> u8 {
+        self.random.pick(&[0, 4, 5, 6, 7, 8, 9, 255])
+    }
+}

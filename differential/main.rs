@@ -1,0 +1,88 @@
+// differential SEED LOGS LISTS: the static library beside the reference, on generated logs, lists of charges and states.
+// Prints what was compared; on a difference the case and both answers, and fails. A case can be made again from its seed
+// and number.
+mod compare;
+mod library;
+mod lists;
+#[allow(dead_code)]
+mod logs;
+mod random;
+mod reference;
+mod report;
+mod session;
+mod states;
+mod tally;
+
+use random::Random;
+use std::process::exit;
+use tally::Tally;
+
+const LISTS_PER_LOG: usize = 10;
+
+fn argument(n: usize, otherwise: u64) -> u64 {
+    match std::env::args().nth(n) {
+        None => otherwise,
+        Some(word) => word.parse().unwrap_or_else(|_| {
+            eprintln!("not a number: {word}");
+            exit(2)
+        }),
+    }
+}
+
+fn fail(seed: u64, case: &str, number: usize, difference: &str) -> ! {
+    println!("DIFFERENCE: seed {seed}, {case} {number}: {difference}");
+    exit(1)
+}
+
+// Each log meets the state that the one before left.
+fn compare_logs(seed: u64, count: usize, tally: &mut Tally) {
+    let mut before = library::Witness::nothing();
+    for number in 0..count {
+        let mut random = Random::of_case(seed, 5, number as u64);
+        match compare::log(&logs::log(seed, number), &before, &mut random, tally) {
+            Ok(replay) => *before = replay.witness,
+            Err(difference) => fail(seed, "log", number, &difference),
+        }
+    }
+}
+
+fn compare_lists(seed: u64, count: usize, tally: &mut Tally) {
+    for first in (0..count).step_by(LISTS_PER_LOG) {
+        let log = logs::log_with_charges(seed, first);
+        let ours = library::Witness::nothing().replay(&log).witness;
+        let theirs = reference::read_log(&log).witness;
+        for number in first..count.min(first + LISTS_PER_LOG) {
+            let list = lists::list(seed, number, &theirs);
+            if let Err(difference) = compare::list(&ours, &theirs, &list, tally) {
+                fail(seed, "list", number, &difference);
+            }
+        }
+    }
+}
+
+fn compare_states(seed: u64, count: usize, tally: &mut Tally) {
+    for number in 0..count {
+        let log = logs::log_with_charges(seed, number);
+        let mut w = Box::new(library::Witness::nothing().replay(&log).witness);
+        states::disturb(&mut Random::of_case(seed, 6, number as u64), &mut w);
+        if let Err(difference) = compare::state(&w, &log, b"FFP\x00\x01\x00\x00", tally) {
+            fail(seed, "state", number, &difference);
+        }
+    }
+}
+
+fn main() {
+    let (seed, logs, lists) = (argument(1, 1), argument(2, 5000) as usize, argument(3, 5000) as usize);
+    session::check();
+    let mut tally = Tally::default();
+    compare_logs(seed, logs, &mut tally);
+    compare_lists(seed, lists, &mut tally);
+    compare_states(seed, lists / 4, &mut tally);
+    tally.print();
+    let missing = tally.missing();
+    if !missing.is_empty() {
+        println!("seed {seed}: never occurred: {}", missing.join(", "));
+        exit(1);
+    }
+    println!("seed {seed}: {logs} logs, {lists} lists and {} states agree", lists / 4);
+}

@@ -1,0 +1,458 @@
+// An implementation of document 01 on its own: written from the document, with hash maps where the library has arrays.
+// It shares nothing with the library but the document.
+use std::collections::{BTreeMap, HashMap, HashSet};
+
+pub const MAX_MEMBERS: usize = 128;
+pub const MAX_CHECKPOINTS: usize = 512;
+pub const MAX_VOTES: usize = 4096;
+pub const MAX_BOND: u64 = 1_000_000_000_000;
+pub const HEADER: usize = 37;
+
+pub type Name = [u8; 32];
+
+// A number of the table of refusals.
+pub type Refusal = u8;
+
+#[derive(Clone)]
+pub struct Checkpoint {
+    pub parent: Option<usize>,
+    pub height: u32,
+}
+
+#[derive(Clone, Copy, PartialEq, Eq, Hash, Debug)]
+pub struct Vote {
+    pub member: u16,
+    pub source: usize,
+    pub target: usize,
+}
+
+#[derive(Clone, Copy, PartialEq, Eq, Debug)]
+pub enum Status {
+    Plain,
+    Justified,
+    Final,
+}
+
+// The members behind a link, each once; the sum of their bonds; whether that is a supermajority.
+#[derive(Clone, Copy, PartialEq, Eq, Debug)]
+pub struct Backing {
+    pub members: u64,
+    pub sum: u64,
+    pub enough: bool,
+}
+
+// A pair of votes of one member that breaks a commandment, the earlier first.
+#[derive(Clone, Copy, PartialEq, Eq, Debug)]
+pub struct Charge {
+    pub id: u16,
+    pub earlier: usize,
+    pub later: usize,
+}
+
+// What is held.
+#[derive(Clone)]
+pub struct Witness {
+    pub bonds: BTreeMap<u16, u64>,
+    pub places: HashMap<Name, usize>,
+    pub checkpoints: Vec<Checkpoint>,
+    pub votes: Vec<Vote>,
+    cast: HashSet<Vote>,
+    links: HashMap<(usize, usize), Vec<u16>>,
+}
+
+// A log read to its end or its stop: the records that were refused, and the refusal and the record that stopped it. Where
+// the header is refused, the witness means nothing.
+pub struct Reading {
+    pub witness: Witness,
+    pub refused: Vec<(usize, Refusal)>,
+    pub stopped: Option<(Refusal, usize)>,
+}
+
+// What a record says.
+enum Record {
+    Member { id: u16, bond: u64 },
+    Checkpoint { name: Name, parent: Name },
+    Vote { id: u16, source: Name, target: Name, source_height: u32, target_height: u32 },
+}
+
+fn integer(bytes: &[u8]) -> u64 {
+    bytes.iter().fold(0, |n, b| n << 8 | u64::from(*b))
+}
+
+fn name(bytes: &[u8]) -> Name {
+    let mut n = [0; 32];
+    n.copy_from_slice(&bytes[..32]);
+    n
+}
+
+// How many bytes a record of this kind has in all; none for an unknown kind.
+pub fn record_length(kind: u8) -> Option<usize> {
+    match kind {
+        1 => Some(11),
+        2 => Some(65),
+        3 => Some(75),
+        _ => None,
+    }
+}
+
+// Rows 4 and 5, on what is left of a log; the record and its length.
+fn decode(rest: &[u8]) -> Result<(Record, usize), Refusal> {
+    let length = record_length(rest[0]).ok_or(4)?;
+    if rest.len() < length {
+        return Err(5);
+    }
+    let record = match rest[0] {
+        1 => Record::Member { id: integer(&rest[1..3]) as u16, bond: integer(&rest[3..11]) },
+        2 => Record::Checkpoint { name: name(&rest[1..]), parent: name(&rest[33..]) },
+        _ => Record::Vote {
+            id: integer(&rest[1..3]) as u16,
+            source: name(&rest[3..]),
+            target: name(&rest[35..]),
+            source_height: integer(&rest[67..71]) as u32,
+            target_height: integer(&rest[71..75]) as u32,
+        },
+    };
+    Ok((record, length))
+}
+
+// Rows 1 to 3; a right header begins a witness with that root.
+pub fn begin(log: &[u8]) -> Result<Witness, Refusal> {
+    if log.len() < HEADER {
+        return Err(1);
+    }
+    if &log[..3] != b"FFW" {
+        return Err(2);
+    }
+    if integer(&log[3..5]) != 1 {
+        return Err(3);
+    }
+    Ok(Witness::with_root(name(&log[5..])))
+}
+
+// A log from its header to its end or to the first record that is unknown or cut.
+pub fn read_log(log: &[u8]) -> Reading {
+    let mut refused = Vec::new();
+    let mut witness = match begin(log) {
+        Ok(w) => w,
+        Err(r) => return Reading { witness: Witness::with_root([0; 32]), refused, stopped: Some((r, 0)) },
+    };
+    let mut at = HEADER;
+    let mut number = 0;
+    while at < log.len() {
+        match witness.read(&log[at..]) {
+            (Ok(()), length) => at += length,
+            (Err(r @ (4 | 5)), _) => {
+                return Reading { witness, refused, stopped: Some((r, number)) };
+            }
+            (Err(r), length) => {
+                refused.push((number, r));
+                at += length;
+            }
+        }
+        number += 1;
+    }
+    Reading { witness, refused, stopped: None }
+}
+
+impl Witness {
+    fn with_root(root: Name) -> Witness {
+        Witness {
+            bonds: BTreeMap::new(),
+            places: HashMap::from([(root, 0)]),
+            checkpoints: vec![Checkpoint { parent: None, height: 0 }],
+            votes: Vec::new(),
+            cast: HashSet::new(),
+            links: HashMap::new(),
+        }
+    }
+
+    // The record at the start of what is left of a log: taken or refused, and how many bytes it has.
+    pub fn read(&mut self, rest: &[u8]) -> (Result<(), Refusal>, usize) {
+        let (record, length) = match decode(rest) {
+            Ok(r) => r,
+            Err(r) => return (Err(r), 0),
+        };
+        let outcome = match record {
+            Record::Member { id, bond } => self.add_member(id, bond),
+            Record::Checkpoint { name, parent } => self.add_checkpoint(name, parent),
+            Record::Vote { id, source, target, source_height, target_height } => {
+                self.add_vote(id, source, target, source_height, target_height)
+            }
+        };
+        (outcome, length)
+    }
+
+    // Rows 10 to 13.
+    fn add_member(&mut self, id: u16, bond: u64) -> Result<(), Refusal> {
+        if !self.votes.is_empty() || self.checkpoints.len() > 1 {
+            return Err(10);
+        }
+        if bond == 0 || bond > MAX_BOND {
+            return Err(11);
+        }
+        if self.bonds.contains_key(&id) {
+            return Err(12);
+        }
+        if self.bonds.len() == MAX_MEMBERS {
+            return Err(13);
+        }
+        self.bonds.insert(id, bond);
+        Ok(())
+    }
+
+    // Rows 20 to 22.
+    fn add_checkpoint(&mut self, name: Name, parent: Name) -> Result<(), Refusal> {
+        if self.places.contains_key(&name) {
+            return Err(20);
+        }
+        let parent = *self.places.get(&parent).ok_or(21)?;
+        if self.checkpoints.len() == MAX_CHECKPOINTS {
+            return Err(22);
+        }
+        self.places.insert(name, self.checkpoints.len());
+        let height = self.checkpoints[parent].height + 1;
+        self.checkpoints.push(Checkpoint { parent: Some(parent), height });
+        Ok(())
+    }
+
+    // Rows 30 to 36.
+    fn add_vote(&mut self, id: u16, from: Name, to: Name, from_height: u32, to_height: u32) -> Result<(), Refusal> {
+        if !self.bonds.contains_key(&id) {
+            return Err(30);
+        }
+        let source = *self.places.get(&from).ok_or(31)?;
+        let target = *self.places.get(&to).ok_or(32)?;
+        if self.checkpoints[source].height != from_height || self.checkpoints[target].height != to_height {
+            return Err(33);
+        }
+        if !self.is_ancestor(source, target) {
+            return Err(34);
+        }
+        let vote = Vote { member: id, source, target };
+        if self.cast.contains(&vote) {
+            return Err(35);
+        }
+        if self.votes.len() == MAX_VOTES {
+            return Err(36);
+        }
+        self.cast.insert(vote);
+        self.votes.push(vote);
+        self.links.entry((source, target)).or_default().push(id);
+        Ok(())
+    }
+
+    // One or more parent steps from `place` lead to `ancestor`.
+    pub fn is_ancestor(&self, ancestor: usize, place: usize) -> bool {
+        let mut reached = self.checkpoints[place].parent;
+        while let Some(p) = reached {
+            if p == ancestor {
+                return true;
+            }
+            reached = self.checkpoints[p].parent;
+        }
+        false
+    }
+
+    pub fn total(&self) -> u64 {
+        self.bonds.values().sum()
+    }
+
+    // The backing of a link. No vote is held twice, so no member stands twice behind a link.
+    pub fn backing(&self, source: usize, target: usize) -> Backing {
+        let behind: &[u16] = self.links.get(&(source, target)).map_or(&[], |v| v);
+        let sum = behind.iter().map(|id| self.bonds[id]).sum();
+        Backing { members: behind.len() as u64, sum, enough: is_supermajority(sum, self.total()) }
+    }
+
+    // The supermajority links: the targets that each source has.
+    fn strong_links(&self) -> HashMap<usize, Vec<usize>> {
+        let total = self.total();
+        let mut strong: HashMap<usize, Vec<usize>> = HashMap::new();
+        for ((source, target), behind) in &self.links {
+            if is_supermajority(behind.iter().map(|id| self.bonds[id]).sum(), total) {
+                strong.entry(*source).or_default().push(*target);
+            }
+        }
+        strong
+    }
+
+    // The standing of every checkpoint: what supermajority links reach from the root is justified.
+    pub fn statuses(&self) -> Vec<Status> {
+        let strong = self.strong_links();
+        let mut status = vec![Status::Plain; self.checkpoints.len()];
+        let mut waiting = vec![0];
+        status[0] = Status::Justified;
+        while let Some(source) = waiting.pop() {
+            for &target in strong.get(&source).into_iter().flatten() {
+                if self.checkpoints[target].parent == Some(source) {
+                    status[source] = Status::Final;
+                }
+                if status[target] == Status::Plain {
+                    status[target] = Status::Justified;
+                    waiting.push(target);
+                }
+            }
+        }
+        status
+    }
+
+    // Two checkpoints conflict when they differ and neither is an ancestor of the other.
+    fn conflicting(&self, a: usize, b: usize) -> bool {
+        a != b && !self.is_ancestor(a, b) && !self.is_ancestor(b, a)
+    }
+
+    // Whether any two final checkpoints conflict.
+    pub fn conflict(&self) -> bool {
+        let status = self.statuses();
+        let finals: Vec<usize> = (0..status.len()).filter(|p| status[*p] == Status::Final).collect();
+        finals.iter().any(|a| finals.iter().any(|b| self.conflicting(*a, *b)))
+    }
+
+    fn heights(&self, vote: &Vote) -> (u32, u32) {
+        (self.checkpoints[vote.source].height, self.checkpoints[vote.target].height)
+    }
+
+    // Whether two distinct votes of one member break a commandment.
+    pub fn breaks(&self, a: &Vote, b: &Vote) -> bool {
+        let (s1, t1) = self.heights(a);
+        let (s2, t2) = self.heights(b);
+        let surrounds = |s1, t1, s2, t2| s1 < s2 && s2 < t2 && t2 < t1;
+        (a.source, a.target) != (b.source, b.target)
+            && (t1 == t2 || surrounds(s1, t1, s2, t2) || surrounds(s2, t2, s1, t1))
+    }
+
+    // The pair shown of each member that has one, by rising id.
+    pub fn charges(&self) -> Vec<Charge> {
+        let mut cast: BTreeMap<u16, Vec<usize>> = BTreeMap::new();
+        for (number, vote) in self.votes.iter().enumerate() {
+            cast.entry(vote.member).or_default().push(number);
+        }
+        cast.iter().filter_map(|(id, numbers)| self.first_pair(*id, numbers)).collect()
+    }
+
+    // Of a member's votes, in rising number: the smallest earlier vote that has a later partner, with its smallest.
+    fn first_pair(&self, id: u16, numbers: &[usize]) -> Option<Charge> {
+        for (k, &earlier) in numbers.iter().enumerate() {
+            for &later in &numbers[k + 1..] {
+                if self.breaks(&self.votes[earlier], &self.votes[later]) {
+                    return Some(Charge { id, earlier, later });
+                }
+            }
+        }
+        None
+    }
+
+    // Our list of charges.
+    pub fn list(&self) -> Vec<u8> {
+        let charges = self.charges();
+        let mut list = b"FFP\x00\x01".to_vec();
+        list.extend((charges.len() as u16).to_be_bytes());
+        for c in charges {
+            list.extend(c.id.to_be_bytes());
+            list.extend((c.earlier as u16).to_be_bytes());
+            list.extend((c.later as u16).to_be_bytes());
+        }
+        list
+    }
+
+    // Row 60, else our list at the buffer's start, and its length.
+    pub fn write_list(&self, buffer: &mut [u8]) -> Result<usize, Refusal> {
+        let list = self.list();
+        if buffer.len() < list.len() {
+            return Err(60);
+        }
+        buffer[..list.len()].copy_from_slice(&list);
+        Ok(list.len())
+    }
+
+    // Rows 50 to 57, else the sum of the named bonds.
+    pub fn check(&self, list: &[u8]) -> Result<u64, Refusal> {
+        if list.len() < 7 || list.len() as u64 != 7 + 6 * integer(&list[5..7]) {
+            return Err(50);
+        }
+        if &list[..3] != b"FFP" {
+            return Err(51);
+        }
+        if integer(&list[3..5]) != 1 {
+            return Err(52);
+        }
+        let mut before = None;
+        let mut sum = 0;
+        for entry in list[7..].chunks(6) {
+            sum += self.check_entry(entry, before)?;
+            before = Some(integer(&entry[..2]) as u16);
+        }
+        Ok(sum)
+    }
+
+    // Rows 53 to 57 on one entry, after the entry of `before`; else the member's bond.
+    fn check_entry(&self, entry: &[u8], before: Option<u16>) -> Result<u64, Refusal> {
+        let id = integer(&entry[..2]) as u16;
+        let (earlier, later) = (integer(&entry[2..4]) as usize, integer(&entry[4..6]) as usize);
+        if before.map_or(false, |b| id <= b) {
+            return Err(53);
+        }
+        let bond = *self.bonds.get(&id).ok_or(54)?;
+        let own = |number: usize| self.votes.get(number).filter(|v| v.member == id).ok_or(55);
+        let (a, b) = (own(earlier)?, own(later)?);
+        if earlier >= later {
+            return Err(56);
+        }
+        if !self.breaks(a, b) {
+            return Err(57);
+        }
+        Ok(bond)
+    }
+}
+
+pub fn is_supermajority(sum: u64, total: u64) -> bool {
+    total > 0 && 3 * sum >= 2 * total
+}
+
+fn word(status: Status) -> &'static str {
+    match status {
+        Status::Plain => "plain",
+        Status::Justified => "justified",
+        Status::Final => "final",
+    }
+}
+
+// The report of a log.
+pub fn report(log: &[u8]) -> String {
+    report_of(&read_log(log))
+}
+
+pub fn report_of(reading: &Reading) -> String {
+    let mut text = String::new();
+    for (record, number) in &reading.refused {
+        text += &format!("refused {record} number {number}\n");
+    }
+    match reading.stopped {
+        Some((number, record)) => text += &format!("stopped {number} record {record}\n"),
+        None => text += &standing(&reading.witness),
+    }
+    text
+}
+
+// The report's lines on what is held: checkpoints, members, the total.
+fn standing(w: &Witness) -> String {
+    let mut text = String::new();
+    for (place, status) in w.statuses().into_iter().enumerate() {
+        text += &format!("checkpoint {place} height {} {}\n", w.checkpoints[place].height, word(status));
+    }
+    let charges: HashMap<u16, Charge> = w.charges().into_iter().map(|c| (c.id, c)).collect();
+    let mut named = 0;
+    for (id, bond) in &w.bonds {
+        text += &format!("member {id} bond {bond} ");
+        match charges.get(id) {
+            Some(c) => {
+                named += bond;
+                text += &format!("broken {} {}\n", c.earlier, c.later);
+            }
+            None => text += "clear\n",
+        }
+    }
+    let answer = if w.conflict() { "yes" } else { "no" };
+    text += &format!("total {} named {named} conflict {answer}\n", w.total());
+    text
+}

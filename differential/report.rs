@@ -1,0 +1,94 @@
+// The report by the library: the log is fed in pieces, cut anywhere, into buffers with much room or little, and the text
+// is that of the reference's report.
+use crate::compare::{same, Same};
+use crate::library::{Piece, Witness, ENDED, FULL, WANTS};
+use crate::random::Random;
+use crate::reference::{self, Reading, HEADER};
+
+// No line of a record has more bytes, and no summary.
+const LINE: usize = 64;
+const SUMMARY: usize = 65536;
+const UNWRITTEN: u8 = 0xa5;
+
+pub fn compare(log: &[u8], before: &Witness, reading: &Reading, random: &mut Random) -> Same {
+    let text = fed(log, before, random)?;
+    same("report", String::from_utf8_lossy(&text).into_owned(), reference::report_of(reading))
+}
+
+// What a call wrote; the rest of the buffer is as it was.
+fn written(buffer: &[u8], piece: &Piece) -> Result<Vec<u8>, String> {
+    same("the rest of the buffer", buffer[piece.written..].iter().all(|b| *b == UNWRITTEN), true)?;
+    Ok(buffer[..piece.written].to_vec())
+}
+
+// The pieces of a long log are larger, since each call checks the state.
+fn next_end(log: &[u8], end: usize, random: &mut Random) -> usize {
+    let most = if log.len() > 20_000 { log.len() } else { 400 };
+    log.len().min(end + random.within(1, most))
+}
+
+// The log's first bytes, and a buffer that is too short for a line. Fewer bytes than a header's wait for more, unless they
+// are the last.
+fn open(log: &[u8], last: bool, before: &Witness) -> Result<(Box<Piece>, Vec<u8>), String> {
+    let mut buffer = vec![UNWRITTEN; LINE];
+    let small = before.open(log, last, &mut buffer[..LINE - 1]);
+    let waits = log.len() < HEADER && !last;
+    same("no room", (small.pause, small.written, small.witness == *before), (if waits { WANTS } else { FULL }, 0, true))?;
+    let piece = before.open(log, last, &mut buffer);
+    same("waits for the header", waits, piece.pause == WANTS && piece.next == 0)?;
+    let text = written(&buffer, &piece)?;
+    Ok((piece, text))
+}
+
+// The bytes from `passed` to `end`, behind some that were passed; how many were passed now is added.
+fn feed(log: &[u8], passed: &mut usize, end: usize, last: &Piece, random: &mut Random) -> Result<(Box<Piece>, Vec<u8>), String> {
+    let behind = random.below(*passed + 1);
+    let room = if log.len() > 20_000 { SUMMARY } else { random.within(LINE, 3 * LINE) };
+    let mut buffer = vec![UNWRITTEN; room];
+    let piece = last.witness.feed(last.records, &log[*passed - behind..end], behind, &mut buffer);
+    *passed += piece.next - behind;
+    let text = written(&buffer, &piece)?;
+    Ok((piece, text))
+}
+
+// The log's end, into a buffer with much room, one that is just long enough and one that is a byte too short.
+fn close(log: &[u8], passed: usize, last: &Piece) -> Result<Vec<u8>, String> {
+    let mut buffer = vec![UNWRITTEN; SUMMARY];
+    let left = log.len() - passed;
+    let piece = last.witness.close(last.records, left, &mut buffer);
+    same("the end", (piece.pause, piece.witness == last.witness), (ENDED, true))?;
+    let text = written(&buffer, &piece)?;
+    let mut short = vec![UNWRITTEN; text.len()];
+    let small = last.witness.close(last.records, left, &mut short[1..]);
+    same("no room at the end", (small.pause, small.written), (FULL, 0))?;
+    same("no room, no text", short.iter().all(|b| *b == UNWRITTEN), true)?;
+    let exact = last.witness.close(last.records, left, &mut short);
+    same("just enough room", (exact.pause, short == text), (ENDED, true))?;
+    Ok(text)
+}
+
+// The whole text, from the calls in turn.
+fn fed(log: &[u8], before: &Witness, random: &mut Random) -> Result<Vec<u8>, String> {
+    let mut end = next_end(log, 0, random);
+    let (mut piece, mut text) = open(&log[..end], end == log.len(), before)?;
+    while piece.pause == WANTS && piece.next == 0 {
+        end = next_end(log, end, random);
+        (piece, text) = open(&log[..end], end == log.len(), before)?;
+    }
+    let mut passed = piece.next;
+    while piece.pause != ENDED {
+        let (next, lines) = feed(log, &mut passed, end, &piece, random)?;
+        piece = next;
+        text.extend(lines);
+        match piece.pause {
+            ENDED | FULL => {}
+            WANTS if end < log.len() => end = next_end(log, end, random),
+            WANTS => {
+                text.extend(close(log, passed, &piece)?);
+                break;
+            }
+            refused => return Err(format!("the report is refused: {refused}")),
+        }
+    }
+    Ok(text)
+}

@@ -1,0 +1,97 @@
+// The cases that document 01 works out, against the reference: its own check, made before anything is compared with it.
+use crate::reference::{self, is_supermajority};
+
+const REPORT: &str = "refused 15 number 35
+checkpoint 0 height 0 final
+checkpoint 1 height 1 final
+checkpoint 2 height 1 final
+checkpoint 3 height 2 justified
+checkpoint 4 height 2 justified
+member 1 bond 1 clear
+member 2 bond 1 broken 1 4
+member 3 bond 1 clear
+total 3 named 1 conflict yes
+";
+
+const LIST: &[u8] = b"\x46\x46\x50\x00\x01\x00\x01\x00\x02\x00\x01\x00\x04";
+
+fn header(root: u8) -> Vec<u8> {
+    let mut log = b"FFW\x00\x01".to_vec();
+    log.extend([root; 32]);
+    log
+}
+
+fn member(log: &mut Vec<u8>, id: u16, bond: u64) {
+    log.push(1);
+    log.extend(id.to_be_bytes());
+    log.extend(bond.to_be_bytes());
+}
+
+fn checkpoint(log: &mut Vec<u8>, name: u8, parent: u8) {
+    log.push(2);
+    log.extend([name; 32]);
+    log.extend([parent; 32]);
+}
+
+fn vote(log: &mut Vec<u8>, id: u16, source: (u8, u32), target: (u8, u32)) {
+    log.push(3);
+    log.extend(id.to_be_bytes());
+    log.extend([source.0; 32]);
+    log.extend([target.0; 32]);
+    log.extend(source.1.to_be_bytes());
+    log.extend(target.1.to_be_bytes());
+}
+
+// The log of the session that document 01 gives whole.
+pub fn worked() -> Vec<u8> {
+    let (root, a, b, c, d) = ((b'r', 0), (b'A', 1), (b'B', 1), (b'C', 2), (b'D', 2));
+    let mut log = header(root.0);
+    for id in 1..=3 {
+        member(&mut log, id, 1);
+    }
+    for (child, parent) in [(a, root), (b, root), (c, a), (d, b)] {
+        checkpoint(&mut log, child.0, parent.0);
+    }
+    for (id, from, to) in [(1, root, a), (2, root, a), (1, a, c), (2, a, c)] {
+        vote(&mut log, id, from, to);
+    }
+    for (id, from, to) in [(2, root, b), (3, root, b), (2, b, d), (3, b, d), (3, b, d)] {
+        vote(&mut log, id, from, to);
+    }
+    log
+}
+
+// Whether two votes of one member, on one chain, with these heights of source and target, are charged.
+fn charged(first: (u32, u32), second: (u32, u32)) -> bool {
+    let mut log = header(0);
+    member(&mut log, 1, 1);
+    for height in 1..=3 {
+        checkpoint(&mut log, height, height - 1);
+    }
+    for (s, t) in [first, second] {
+        vote(&mut log, 1, (s as u8, s), (t as u8, t));
+    }
+    reference::read_log(&log).witness.charges().len() == 1
+}
+
+// Every case that the document marks.
+pub fn check() {
+    let log = worked();
+    assert_eq!(reference::report(&log), REPORT);
+    let reading = reference::read_log(&log);
+    assert_eq!(reading.witness.list(), LIST);
+    assert_eq!(reading.witness.check(LIST), Ok(1));
+    assert_eq!(reference::report(&header(0)), "checkpoint 0 height 0 justified\ntotal 0 named 0 conflict no\n");
+    for (sum, total, answer) in [(2, 3, true), (2, 4, false), (3, 4, true), (66, 100, false), (67, 100, true), (0, 0, false)] {
+        assert_eq!(is_supermajority(sum, total), answer);
+    }
+    for (first, second, answer) in [
+        ((0, 3), (1, 2), true),
+        ((1, 2), (0, 3), true),
+        ((0, 3), (0, 2), false),
+        ((1, 3), (0, 2), false),
+        ((0, 1), (1, 2), false),
+    ] {
+        assert_eq!(charged(first, second), answer);
+    }
+}

@@ -1,0 +1,84 @@
+// What occurred, counted: a generator that misses a row of the table compares nothing there.
+use crate::reference::{Reading, Refusal, Status};
+use std::collections::BTreeMap;
+
+#[derive(Default)]
+pub struct Tally(BTreeMap<String, u64>);
+
+// Every row of the table, and every answer.
+const ROWS: [Refusal; 30] = [
+    1, 2, 3, 4, 5, 10, 11, 12, 13, 20, 21, 22, 30, 31, 32, 33, 34, 35, 36, 40, 41, 50, 51, 52, 53, 54, 55, 56, 57, 60,
+];
+const ANSWERS: [&str; 9] = [
+    "standing plain",
+    "standing justified",
+    "standing final",
+    "conflict yes",
+    "conflict no",
+    "list passed with a sum",
+    "list passed with nobody named",
+    "state sound",
+    "state not sound",
+];
+
+impl Tally {
+    fn add(&mut self, what: &str) {
+        *self.0.entry(what.to_string()).or_default() += 1;
+    }
+
+    pub fn refused(&mut self, row: Refusal) {
+        self.add(&format!("refused {row:2}"));
+    }
+
+    pub fn answer(&mut self, answer: &Result<u64, Refusal>) {
+        if let Err(row) = answer {
+            self.refused(*row);
+        }
+    }
+
+    pub fn list(&mut self, answer: &Result<u64, Refusal>) {
+        match answer {
+            Ok(0) => self.add(ANSWERS[6]),
+            Ok(_) => self.add(ANSWERS[5]),
+            Err(_) => {}
+        }
+    }
+
+    pub fn state(&mut self, sound: bool) {
+        if !sound {
+            self.refused(40);
+        }
+        self.add(if sound { ANSWERS[7] } else { ANSWERS[8] });
+    }
+
+    // The refusals and the answers of one log, by the reference.
+    pub fn reading(&mut self, reading: &Reading) {
+        for (_, row) in &reading.refused {
+            self.refused(*row);
+        }
+        if let Some((row, _)) = reading.stopped {
+            return self.refused(row);
+        }
+        for status in reading.witness.statuses() {
+            self.add(match status {
+                Status::Plain => ANSWERS[0],
+                Status::Justified => ANSWERS[1],
+                Status::Final => ANSWERS[2],
+            });
+        }
+        self.add(if reading.witness.conflict() { ANSWERS[3] } else { ANSWERS[4] });
+    }
+
+    // What never occurred.
+    pub fn missing(&self) -> Vec<String> {
+        let rows = ROWS.iter().map(|row| format!("refused {row:2}"));
+        let answers = ANSWERS.iter().map(|a| a.to_string());
+        rows.chain(answers).filter(|what| !self.0.contains_key(what)).collect()
+    }
+
+    pub fn print(&self) {
+        for (what, count) in &self.0 {
+            println!("{count:8} {what}");
+        }
+    }
+}
