@@ -6,7 +6,21 @@ ghost use Prim.Native.Nat.{_+_, _≤_};
 ghost use lib.ListN.{length};
 
 fn put(words: &[u8]) -> bool {
-    io::write_all(STDOUT_FILENO, words)
+    let is_put = io::write_all(STDOUT_FILENO, words);
+    if !is_put {
+        os::fail(b"standard output");
+    }
+    is_put
+}
+
+// The log has no more bytes, or cannot be read.
+fn put_cut(words: &[u8]) {
+    let mut one = [0u8; 1];
+    if libc::read(STDIN_FILENO, &mut one) < 0 {
+        os::fail(b"log");
+    } else {
+        put(words);
+    }
 }
 
 fn put_number(words: &[u8], n: u64) -> bool {
@@ -94,7 +108,7 @@ fn put_next(k: u64) -> bool {
     let got = fill(&mut rest, size);
     put_number(b"", k);
     if got < size {
-        put(b" cut\n");
+        put_cut(b" cut\n");
         return false;
     }
     let is_put = put_record(kind, &rest);
@@ -124,7 +138,7 @@ fn put_header(head: &[u8]) -> bool
 fn main() {
     let mut head = [0u8; 37];
     if io::read_full(STDIN_FILENO, &mut head) < 37 {
-        put(b"header cut\n");
+        put_cut(b"header cut\n");
         return;
     }
     if put_header(&head) {

@@ -421,22 +421,6 @@ fn number(r: Refusal) -> u64 {
     }
 }
 
-fn blank() -> Witness {
-    Witness {
-        ids: [0u16; 128],
-        bonds: [0u64; 128],
-        names: [0u8; 16384],
-        parents: [Place(0); 512],
-        heights: [Height(0); 512],
-        voters: [0u16; 4096],
-        sources: [Place(0); 4096],
-        targets: [Place(0); 4096],
-        member_count: 0,
-        checkpoint_count: 0,
-        vote_count: 0,
-    }
-}
-
 fn say(word: &[u8], n: u64) {
     io::write_all(STDOUT_FILENO, word);
     io::print_decimal(STDOUT_FILENO, n);
@@ -610,7 +594,7 @@ fn say_list(w: Witness) {
 
 // What a log leaves; it has fewer than 5,000 records.
 fn left_by(log: &[u8]) -> Witness {
-    let replayed = guarantee::replay(blank(), log, 5000);
+    let replayed = guarantee::replay(blank::blank(), log, 5000);
     let read = replayed.read;
     read.witness
 }

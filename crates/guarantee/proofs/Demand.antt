@@ -17,7 +17,8 @@ use Rattle.model.specs.Model.{Model, start, apply}
 use Rattle.model.specs.Run.{Event, reading, OfBytes, told, decideEvent, after, outcomes}
 use Rattle.model.specs.WellFormed.{WellFormed}
 use Rattle.model.proofs.Bytes.{drop-bytes}
-use Rattle.model.proofs.Checker.{checker-exact, list-exact}
+use Rattle.model.proofs.Checker.{checker-exact, list-exact, our-list-passes}
+use Rattle.model.proofs.Conduct.{conduct-exact}
 use Rattle.model.proofs.Finality.{status-exact, conflict-exact}
 use Rattle.model.proofs.Readings.{readings-bound, readings-bytes}
 use Rattle.model.proofs.Run.{start-good, event-good}
@@ -108,6 +109,8 @@ module _ (w : Witness) (b : Model) (h : Holds w b) where
     list-exact = list-exact rootHeight b (h .good);
     checker-answer = λ l. answered w b h (λ m. check m l);
     checker-exact = λ l. checker-exact b l;
+    conduct-exact = λ id. conduct-exact b id;
+    named-exact = our-list-passes rootHeight b (h .good);
     none-innocent = λ l s bytes passes. no-innocent-named b l s bytes (sym (answered w b h (λ m. check m l)) ∙ passes);
   }
 

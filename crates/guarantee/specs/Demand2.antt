@@ -10,11 +10,11 @@ use lib.ListN.{length, drop}
 use Rattle.model.specs.Answer.{answer, row}
 use Rattle.model.specs.Bytes.{AreBytes}
 use Rattle.model.specs.Checker.{check}
-use Rattle.model.specs.Evidence.{ourList}
-use Rattle.model.specs.Exact.{StatusExact, ConflictExact, ListExact, CheckerExact}
+use Rattle.model.specs.Evidence.{ourList, violator?}
+use Rattle.model.specs.Exact.{StatusExact, ConflictExact, ConductExact, ListExact, CheckerExact}
 use Rattle.model.specs.Finality.{status, conflicting?}
 use Rattle.model.specs.Model.{Model}
-use Rattle.model.specs.Support.{support}
+use Rattle.model.specs.Support.{support, sum}
 use Rattle.safety.specs.Share.{NamesViolators}
 use Rattle.state.specs.State.{Typed, modelOf}
 use Rattle.state.specs.declared.Witness.{Witness}
@@ -42,6 +42,9 @@ pub record ByTheRules (w : Witness) (b : Model) : Type 0 where
   pub checker-answer : (l : List ℕ) → checkCall w l ≡ check b l
   pub checker-exact : (l : List ℕ) → AreBytes l → CheckerExact b l
   pub none-innocent : (l : List ℕ) (s : ℕ) → AreBytes l → checkCall w l ≡ answer s → NamesViolators b l s
+  -- what the report says of a member, and its `named`: the sum that the checker gives for our list
+  pub conduct-exact : (id : ℕ) → ConductExact b id
+  pub named-exact : check b (ourList b) ≡ answer (sum (violator? b) (b .members))
 
 abbrev pub Demand2 : Type 0
 Demand2 = (w : Witness) → Typed w → sound? w ≡ true → ByTheRules w (modelOf w)

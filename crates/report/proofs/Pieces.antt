@@ -26,8 +26,9 @@ use Rattle.state.specs.declared.Witness.{Witness}
 use Rattle.state.proofs.Started.{empty-model, empty-typed, header-long, header-name}
 use Rattle.reader.proofs.Runs.{Sound}
 use Rattle.witness.specs.Calls.{sound?}
+use Rattle.witness.proofs.Guarded.{sound-good}
 use Rattle.report.specs.Feed.{Paused, wants, full, ended, refusedBy, Feeding, pausedAt, ahead, lineRoom, lastNumber, halted, headed, onSound, feedFrom, openCall, feedCall, endText, endFed, endCall}
-use Rattle.report.specs.Pieces.{restOfReport, Piece, onward, fedText, lastPause, endPause, InPieces, FeedGoesOn}
+use Rattle.report.specs.Pieces.{restOfReport, Piece, onward, fedText, lastPause, endPause, InPieces, FeedGoesOn, CloseEnds}
 use Rattle.report.proofs.Feeding.{Waits, fed-call}
 use Rattle.report.proofs.Prefix.{header-in-piece}
 
@@ -217,3 +218,8 @@ feed-goes-on room w k s has-room number = go (sound? w)
         let one : length s + 1 ≡ suc (length s) = omega arith in
         subst (λ (n : ℕ). feedFrom n room w k s .paused ≡ full → 0 < feedFrom n room w k s .passed) (sym one) (first-passed (length s) room w k s goes) e
     go false e = let z : _≡_ {A = ℕ} 0 1 = cc in absurd (omega arith)
+
+pub close-ends : CloseEnds
+close-ends room w k left typed sound fits =
+    ap (λ (f : Feeding). f .paused)
+    (close-is room w (record { typed = typed; good = sound-good w typed sound }) k left false (le-ltb room (length (endText (modelOf w) k left)) fits))

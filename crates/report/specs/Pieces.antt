@@ -10,9 +10,10 @@ use Rattle.model.specs.Lists.{any}
 use Rattle.model.specs.Model.{Model}
 use Rattle.model.specs.Report.{report, summary, stops?, outcomeLines}
 use Rattle.model.specs.Run.{after, outcomes, readings}
-use Rattle.state.specs.State.{modelOf}
+use Rattle.state.specs.State.{Typed, modelOf}
 use Rattle.state.specs.declared.Witness.{Witness}
-use Rattle.report.specs.Feed.{Paused, wants, full, ended, refusedBy, Feeding, lineRoom, lastNumber, openCall, feedCall, endCall}
+use Rattle.witness.specs.Calls.{sound?}
+use Rattle.report.specs.Feed.{Paused, wants, full, ended, refusedBy, Feeding, lineRoom, lastNumber, openCall, feedCall, endText, endCall}
 
 -- the rest of a report: record k and those after it, from the bytes s to the log's end or its stop, and the summary
 unfoldable pub restOfReport : Model → ℕ → List ℕ → List ℕ
@@ -70,9 +71,10 @@ module _ (room : ℕ) (w : Witness) (last : Bool) (first : Piece) (ps : List Pie
       (onward (opened .paused) (opened .paused) (lastPause full (opened .witness) (opened .records) left ps) ≡ full → ⊥)
       × (onward (opened .paused) (opened .paused) (endPause room (opened .witness) (opened .records) left ps) ≡ full → ⊥)
 
--- Any log, right or wrong, in pieces that are cut anywhere, each with any room, whatever witness was handed in first: where the
--- first piece has the header, or is the log and said to be the last, and no last call paused for want of room, what is
--- written is the report of the whole log.
+-- Any log, right or wrong, in pieces that are cut anywhere, each with any room but the first, which has room for a line; whatever
+-- witness was handed in first. The first piece has the header, or is the log and said to be the last: a call of `open` that
+-- wants more has read nothing, and is made again with more. Where no last call paused for want of room, or of a record number,
+-- what is written is the report of the whole log.
 abbrev pub InPieces : Type 0
 InPieces =
     (log : List ℕ) → AreBytes log → (room : ℕ) (w : Witness) (last : Bool) (first : Piece) (ps : List Piece)
@@ -84,3 +86,7 @@ InPieces =
 -- A call of `feed` with room for a line, and a number for a record, does not pause for want of room before it has passed a record.
 abbrev pub FeedGoesOn : Type 0
 FeedGoesOn = (room : ℕ) (w : Witness) (k : ℕ) (s : List ℕ) → lineRoom ≤ room → k < lastNumber → feedCall room w k s .paused ≡ full → 0 < feedCall room w k s .passed
+
+-- A call of `close` with room for its text ends the report.
+abbrev pub CloseEnds : Type 0
+CloseEnds = (room : ℕ) (w : Witness) (k left : ℕ) → Typed w → sound? w ≡ true → length (endText (modelOf w) k left) ≤ room → endCall room w k left .paused ≡ ended

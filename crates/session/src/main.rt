@@ -1021,61 +1021,9 @@ const LOG: [u8; 1005] = [
     2,
 ];
 
-// The number of a refusal in document 01's table.
-fn number(r: Refusal) -> u64 {
-    match r {
-        Refusal::LogTooShort => 1,
-        Refusal::LogMark => 2,
-        Refusal::LogVersion => 3,
-        Refusal::UnknownKind => 4,
-        Refusal::CutRecord => 5,
-        Refusal::MembersFixed => 10,
-        Refusal::BondOutOfRange => 11,
-        Refusal::IdHeld => 12,
-        Refusal::MembersFull => 13,
-        Refusal::NameHeld => 20,
-        Refusal::ParentNotHeld => 21,
-        Refusal::CheckpointsFull => 22,
-        Refusal::VoterNotHeld => 30,
-        Refusal::SourceNotHeld => 31,
-        Refusal::TargetNotHeld => 32,
-        Refusal::WrongHeight => 33,
-        Refusal::NotAncestor => 34,
-        Refusal::VoteHeld => 35,
-        Refusal::VotesFull => 36,
-        Refusal::UnsoundState => 40,
-        Refusal::PlaceNotHeld => 41,
-        Refusal::ListLength => 50,
-        Refusal::ListMark => 51,
-        Refusal::ListVersion => 52,
-        Refusal::IdNotRising => 53,
-        Refusal::ChargedNotHeld => 54,
-        Refusal::NotOwnVote => 55,
-        Refusal::NotEarlier => 56,
-        Refusal::NoViolation => 57,
-        Refusal::BufferTooShort => 60,
-    }
-}
-
-fn blank() -> Witness {
-    Witness {
-        ids: [0u16; 128],
-        bonds: [0u64; 128],
-        names: [0u8; 16384],
-        parents: [Place(0); 512],
-        heights: [Height(0); 512],
-        voters: [0u16; 4096],
-        sources: [Place(0); 4096],
-        targets: [Place(0); 4096],
-        member_count: 0,
-        checkpoint_count: 0,
-        vote_count: 0,
-    }
-}
-
 fn say_refused(r: Refusal) {
     io::write_all(STDOUT_FILENO, b"refused ");
-    io::print_decimal(STDOUT_FILENO, number(r));
+    io::print_decimal(STDOUT_FILENO, text::refusals::refusal_number(r) as u64);
     io::write_all(STDOUT_FILENO, b"\n");
 }
 
@@ -1207,7 +1155,7 @@ fn say_list(w: Witness) {
 }
 
 fn main() {
-    let begun = witness::begin(blank(), &LOG);
+    let begun = witness::begin(blank::blank(), &LOG);
     let w = read_all(begun.witness, &LOG);
     say_status(w, 0);
     say_status(w, 1);
@@ -1222,7 +1170,7 @@ fn main() {
     say_support(w, 1, 2);
     say_conflict(w);
     say_list(w);
-    let replayed = guarantee::replay(blank(), &LOG, 64);
+    let replayed = guarantee::replay(blank::blank(), &LOG, 64);
     let read = replayed.read;
     let last = read.last;
     let whole = read.witness;

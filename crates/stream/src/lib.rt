@@ -1,8 +1,6 @@
 // A log read from a file to its end, in constant memory: a piece at a time, through the report's calls. What they write goes
 // to standard output.
 use libc::STDOUT_FILENO;
-use model::Height;
-use model::Place;
 use report::Fed;
 use report::Pause;
 use state::Witness;
@@ -118,23 +116,6 @@ fn call(w: Witness, begun: bool, records: u64, input: &[u8], at_end: bool, outpu
     report::open(w, input, at_end, output)
 }
 
-// A witness to be handed in where none is held yet.
-fn blank() -> Witness {
-    Witness {
-        ids: [0u16; 128],
-        bonds: [0u64; 128],
-        names: [0u8; 16384],
-        parents: [Place(0); 512],
-        heights: [Height(0); 512],
-        voters: [0u16; 4096],
-        sources: [Place(0); 4096],
-        targets: [Place(0); 4096],
-        member_count: 0,
-        checkpoint_count: 0,
-        vote_count: 0,
-    }
-}
-
 // Where reading stands: whether it goes on, how it ended where it does not, whether the header was read, how many bytes are at
 // hand, whether the file has no more, the number of the next record, and the witness.
 struct Turn {
@@ -208,7 +189,7 @@ fn top_up(fd: i32, input: &mut [u8], have: usize, at_end: bool) -> Filled
     }
 }
 
-// One turn: a read, and then what is at hand.
+// One turn: a read, and then what is at hand, where that is worth a call.
 fn step(fd: i32, t: Turn, lines: bool, input: &mut [u8], output: &mut [u8]) -> Turn
     requires { ⌜ t .have ≤ length (now input) ⌝ }
     ensures { λ r. ⌜ r .have ≤ length (now (input .exit)) ⌝ }
@@ -235,7 +216,15 @@ fn step(fd: i32, t: Turn, lines: bool, input: &mut [u8], output: &mut [u8]) -> T
         records: t.records,
         witness: held,
     };
-    advance(at_hand, lines, input, output)
+    if is_ready(t.begun, filled.bytes, filled.ended) {
+        return advance(at_hand, lines, input, output);
+    }
+    at_hand
+}
+
+// Whether the bytes at hand are worth a call, which checks the whole state: a header, the longest record, or all there is.
+fn is_ready(begun: bool, bytes: usize, at_end: bool) -> bool {
+    at_end | (75 <= bytes) | (!begun & (37 <= bytes))
 }
 
 // Turn after turn, to the log's end or its stop. A proved loop has to end, and nothing says that a file does: so it counts
@@ -248,7 +237,7 @@ fn read_pieces(fd: i32, lines: bool, input: &mut [u8], output: &mut [u8]) -> Tur
         have: 0,
         at_end: false,
         records: 0,
-        witness: blank(),
+        witness: blank::blank(),
     };
     let mut turns = u64::MAX;
     while 0 < turns {
