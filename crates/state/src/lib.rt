@@ -167,8 +167,8 @@ fn decide_places(
     id: u16,
     s: Place,
     t: Place,
-    source_height: u32,
-    target_height: u32,
+    source_height: Height,
+    target_height: Height,
 ) -> Verdict
     requires { ⌜ (checkpoints ≤ 512) × (s .0 < checkpoints) × (t .0 < checkpoints) × Falling checkpoints parents ⌝ }
     requires { ⌜ (votes ≤ length (now voters)) × (votes ≤ 4096) ⌝ }
@@ -178,17 +178,17 @@ fn decide_places(
         → AncestorsHeld m parents checkpoints
         → VotesHeld m (now (voters .entry)) sources targets votes
         → verdictOf (addVote (record { voter = id; source = s .0; target = t .0 })) r
-        ≡ decidePlaces m (record { voter = id; source = s .0; target = t .0 }) «source_height» «target_height»)
+        ≡ decidePlaces m (record { voter = id; source = s .0; target = t .0 }) («source_height» .0) («target_height» .0))
         ⌝ }
 {
     let i = s.0 as usize;
     let from = heights[i];
-    if source_height != from.0 {
+    if source_height.0 != from.0 {
         return Verdict::Refuse(Refusal::WrongHeight);
     }
     let j = t.0 as usize;
     let to = heights[j];
-    if target_height != to.0 {
+    if target_height.0 != to.0 {
         return Verdict::Refuse(Refusal::WrongHeight);
     }
     if !tables::tree::is_ancestor(parents, checkpoints, s, t) {
@@ -395,8 +395,8 @@ fn read_vote(mut w: Witness, log: &[u8], at: usize) -> Reading
             let heights = w.heights;
             let sources = w.sources;
             let targets = w.targets;
-            let source_height = wire::be32(log, at + 67);
-            let target_height = wire::be32(log, at + 71);
+            let source_height = Height(wire::be32(log, at + 67));
+            let target_height = Height(wire::be32(log, at + 71));
             match decide_places(
                 parents,
                 heights,

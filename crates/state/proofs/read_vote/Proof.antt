@@ -103,8 +103,8 @@ decide-places-requires c κs =
 enum-known-r-2 : tie.Need-enum-known-r-2
 enum-known-r-2 c = search needs
 
-add-t34 : tie.Need-add-t34
-add-t34 c = omega (arith, c .before .before .before .before .before .before .before .before .before .before .before .before .before .before .before .before .before .before .before .before .before .before .before .pre .1 .0, c .before .before .before .before .before .before .before .before .before .before .before .before .before .before .before .before .before .before .before .before .before .before .before .good)
+add-t35 : tie.Need-add-t35
+add-t35 c = omega (arith, c .before .before .before .before .before .before .before .before .before .before .before .before .before .before .before .before .before .before .before .before .before .before .before .pre .1 .0, c .before .before .before .before .before .before .before .before .before .before .before .before .before .before .before .before .before .before .before .before .before .before .before .good)
 
 enum-told : tie.Need-enum-told
 enum-told c = search needs
@@ -130,8 +130,8 @@ element-set-from-t c = room c
 add-w : tie.Need-add-w
 add-w c = omega (arith, room c)
 
-add-t36 : tie.Need-add-t36
-add-t36 c = omega (arith, c .before .before .before .before .before .before .before .before .before .before .before .before .before .before .before .before .before .before .before .before .before .before .pre .1 .0, c .before .before .before .before .before .before .before .before .before .before .before .before .before .before .before .before .before .before .before .before .before .before .good)
+add-t37 : tie.Need-add-t37
+add-t37 c = omega (arith, c .before .before .before .before .before .before .before .before .before .before .before .before .before .before .before .before .before .before .before .before .before .before .pre .1 .0, c .before .before .before .before .before .before .before .before .before .before .before .before .before .before .before .before .before .before .before .before .before .before .good)
 
 returns : tie.Need-returns
 returns c =
@@ -167,7 +167,7 @@ read-vote-spec =
     be32-requires-2
     decide-places-requires
     enum-known-r-2
-    add-t34
+    add-t35
     enum-told
     mul-w
     element-write-w
@@ -176,7 +176,7 @@ read-vote-spec =
     mul-t
     element-set-from-t
     add-w
-    add-t36
+    add-t37
     returns
     returns-2
     returns-3)
