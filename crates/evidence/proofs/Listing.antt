@@ -8,18 +8,19 @@ use mathlib.Core.List.{List, [], _∷_, _++_, map, flatMap, append-nil}
 use lib.ListN.{length, getD, take, set}
 use lib.Seq.{take-suc, getD-set-same, getD-set-other}
 use Rattle.model.specs.Evidence as Model
-use Rattle.model.specs.Evidence.{Charge, conductFrom, chargeOf}
+use Rattle.model.specs.Evidence.{Charge, chargeOf}
 use Rattle.model.specs.Limits.{rootHeight}
 use Rattle.model.specs.Lists.{tabulate, All, none, each}
-use Rattle.model.specs.Model.{Member, Checkpoint, Vote, noMember, memberAt}
+use Rattle.model.specs.Model.{Member, noMember, memberAt}
 use Rattle.model.specs.WellFormed.{WellFormed}
 use Rattle.model.proofs.Lists.{tabulate-same, tabulate-at}
 use Rattle.state.specs.declared.Witness.{Witness}
 use Rattle.state.specs.State.{memberIn, modelOf}
 use Rattle.state.proofs.Kept.{count-members}
+use Rattle.evidence.specs.declared.Conduct.{Conduct}
 use Rattle.evidence.specs.declared.Charges.{Charges}
-use Rattle.evidence.specs.Held.{IdsHeld, Ordered, chargesAt}
-use Rattle.evidence.specs.Listed.{chargeIn, chargesOf}
+use Rattle.evidence.specs.Held.{IdsHeld, Ordered}
+use Rattle.evidence.specs.Listed.{conductAt, Shown, chargeIn, chargesOf, chargesAt}
 use Rattle.evidence.proofs.Bytes.{flat-snoc}
 use Rattle.evidence.proofs.Sorting.{all-wider}
 
@@ -51,24 +52,24 @@ adds-one c id i j e so = so ∙ sym (ap (λ (k : Model.Conduct). chargesOf c ++ 
 
 -- ---- the members at the first k places
 
-module _ (cs : List Checkpoint) (vs : List Vote) (ids : List ℕ) where
-  pub listed-none : (c : Charges) → c .count ≡ 0 → chargesOf c ≡ chargesAt cs vs ids []
+module _ (ids : List ℕ) (shown : List Conduct) where
+  pub listed-none : (c : Charges) → c .count ≡ 0 → chargesOf c ≡ chargesAt ids shown []
   unfolding chargesOf chargesAt tabulate flatMap
   listed-none c e = ap (λ (n : ℕ). tabulate n (chargeIn c)) e
 
-  pub listed-more : (k : ℕ) (places : List ℕ) {before after : List Charge} {shown : Model.Conduct} → k < length places
-      → shown ≡ conductFrom cs (getD ids (getD places k 0) 0) 0 vs
-      → after ≡ before ++ chargeOf (getD ids (getD places k 0) 0) shown
-      → before ≡ chargesAt cs vs ids (take k places)
-      → after ≡ chargesAt cs vs ids (take (k + 1) places)
+  pub listed-more : (k : ℕ) (places : List ℕ) {before after : List Charge} → k < length places
+      → after ≡ before ++ chargeOf (getD ids (getD places k 0) 0) (conductAt shown (getD places k 0))
+      → before ≡ chargesAt ids shown (take k places)
+      → after ≡ chargesAt ids shown (take (k + 1) places)
   unfolding chargesAt
-  listed-more k places h found added so =
+  listed-more k places h added so =
+      let p = getD places k 0 in
       added
-      ∙ ap₂ (λ (xs : List Charge) (s : Model.Conduct). xs ++ chargeOf (getD ids (getD places k 0) 0) s) so found
-      ∙ rw (add-one, take-suc places k 0 h) (sym (flat-snoc (λ p. chargeOf (getD ids p 0) (conductFrom cs (getD ids p 0) 0 vs)) (take k places) (getD places k 0)))
+      ∙ ap (λ (xs : List Charge). xs ++ chargeOf (getD ids p 0) (conductAt shown p)) so
+      ∙ rw (add-one, take-suc places k 0 h) (sym (flat-snoc (λ q. chargeOf (getD ids q 0) (conductAt shown q)) (take k places) p))
 
-  pub listed-all : (k n : ℕ) (places : List ℕ) {c : List Charge} → k ≤ n → n ≤ k → c ≡ chargesAt cs vs ids (take k places) → c ≡ chargesAt cs vs ids (take n places)
-  listed-all k n places a b so = so ∙ ap (λ (m : ℕ). chargesAt cs vs ids (take m places)) (le-antisymm a b)
+  pub listed-all : (k n : ℕ) (places : List ℕ) {c : List Charge} → k ≤ n → n ≤ k → c ≡ chargesAt ids shown (take k places) → c ≡ chargesAt ids shown (take n places)
+  listed-all k n places a b so = so ∙ ap (λ (m : ℕ). chargesAt ids shown (take m places)) (le-antisymm a b)
 
 -- ---- of a witness
 
@@ -85,14 +86,17 @@ ids-held w = record { count = count-members w; id = λ i h. ap (λ (x : Member).
 pub members-fit : (w : Witness) → WellFormed rootHeight (modelOf w) → w .«member_count» ≤ 128
 members-fit w sound = omega (arith, sound .members .fit, count-members w)
 
-pub listed-charges : (w : Witness) (places : List ℕ) {cs : List Charge}
+pub listed-charges : (w : Witness) (shown : List Conduct) (places : List ℕ) {cs : List Charge}
     → Ordered (w .ids) (w .«member_count») 0 places
-    → cs ≡ chargesAt (modelOf w .checkpoints) (modelOf w .votes) (w .ids) places
+    → Shown w shown
+    → cs ≡ chargesAt (w .ids) shown places
     → cs ≡ Model.charges (modelOf w)
-unfolding chargesAt Model.charges Model.conduct
-listed-charges w places o listed =
+unfolding chargesAt Model.charges
+listed-charges w shown places o found listed =
     let m = modelOf w in
-    let charge : ℕ → List Charge = λ id. chargeOf id (conductFrom (m .checkpoints) id 0 (m .votes)) in
+    let charge : ℕ → List Charge = λ id. chargeOf id (Model.conduct m id) in
+    let same : All (λ p. charge (memberAt (m .members) p .id) ≡ chargeOf (getD (w .ids) p 0) (conductAt shown p)) places =
+    all-wider (λ p h. ap charge (ids-held w .id p h) ∙ ap (chargeOf (getD (w .ids) p 0)) (sym (found p h))) (o .held) in
     listed
-    ∙ sym (flat-same (λ x. charge (x .id)) (λ p. charge (getD (w .ids) p 0)) (memberAt (m .members)) (all-wider (λ p h. ap charge (ids-held w .id p h)) (o .held)))
+    ∙ sym (flat-same (λ x. charge (x .id)) (λ p. chargeOf (getD (w .ids) p 0) (conductAt shown p)) (memberAt (m .members)) same)
     ∙ ap (flatMap (λ x. charge (x .id))) (o .rising (m .members) (ids-held w))

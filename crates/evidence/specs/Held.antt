@@ -1,11 +1,10 @@
 -- How arrays of numbers hold what the model holds.
 use Prim.Native.Nat.{ℕ, _<_}
 use mathlib.Core.Path.{_≡_}
-use mathlib.Core.List.{List, map, flatMap}
-use mathlib.Core.Bool.{Bool, false, _&&_, _||_}
+use mathlib.Core.List.{List, map}
+use mathlib.Core.Bool.{false}
 use lib.ListN.{length, getD, drop}
-use lib.Dec.{eqb, ltb}
-use Rattle.model.specs.Evidence.{Charge, byId, chargeOf, conductFrom}
+use Rattle.model.specs.Evidence.{byId}
 use Rattle.model.specs.Lists.{All}
 use Rattle.model.specs.Model.{Member, Checkpoint, Vote, memberAt, voteAt, heightOf, sameVote}
 
@@ -26,15 +25,3 @@ pub record IdsHeld (ms : List Member) (ids : List ℕ) (n : ℕ) : Type 0 where
 pub record Ordered (ids : List ℕ) (n i : ℕ) (places : List ℕ) : Type 0 where
   pub held : All (λ p. p < n) places
   pub rising : (ms : List Member) → IdsHeld ms ids n → map (memberAt ms) places ≡ byId (drop i ms)
-
--- the charges of the members at some places, in the places' order
-unfoldable pub chargesAt : List Checkpoint → List Vote → List ℕ → List ℕ → List Charge
-chargesAt cs vs ids places = flatMap (λ p. chargeOf (getD ids p 0) (conductFrom cs (getD ids p 0) 0 vs)) places
-
--- II, on heights: the first vote surrounds the second
-abbrev pub surround : ℕ → ℕ → ℕ → ℕ → Bool
-surround low1 high1 low2 high2 = ltb low1 low2 && ltb low2 high2 && ltb high2 high1
-
--- I or II, in either order
-abbrev pub heightsBreak : ℕ → ℕ → ℕ → ℕ → Bool
-heightsBreak low1 high1 low2 high2 = eqb high1 high2 || surround low1 high1 low2 high2 || surround low2 high2 low1 high1

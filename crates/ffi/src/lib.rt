@@ -84,7 +84,7 @@ pub struct Piece {
 fn number(r: Refusal) -> u64
     ensures { λ n. ⌜ n ≡ refusalNumber r ⌝ }
 {
-    text::refusals::refusal_number(r) as u64
+    refusals::refusal_number(r) as u64
 }
 
 // The number of the refusal of a header; 0 where there is none.
@@ -294,7 +294,7 @@ fn pause_number(p: Pause) -> u64
         Pause::Wants => 0,
         Pause::Full => 1,
         Pause::Ended => 2,
-        Pause::Refused(r) => 256 + text::refusals::refusal_number(r) as u64,
+        Pause::Refused(r) => 256 + refusals::refusal_number(r) as u64,
     }
 }
 

@@ -8,6 +8,7 @@ use Rattle.model.specs.Lists.{anyBelow}
 use Rattle.model.specs.Tree.{ancestor?}
 use Rattle.model.specs.Finality.{conflicting?}
 use Rattle.tables.specs.Places.{treeOf, Falling}
+use Rattle.tables.specs.Chains.{lastBelow}
 use Rattle.tables.proofs.Ancestry.{tree-tabulate}
 use Rattle.tables.proofs.Pointwise.{any-same}
 use Rattle.state.specs.declared.Witness.{Witness}
@@ -16,7 +17,6 @@ use Rattle.state.proofs.Kept.{count-checkpoints}
 use Rattle.finality.specs.declared.Analysis.{Analysis}
 use Rattle.finality.specs.Answers.{IsAnalysis, isFinal}
 use Rattle.finality.specs.Ready.{Sound}
-use Rattle.finality.specs.Chains.{lastBelow}
 use Rattle.finality.proofs.Conflicting.{no-final, some-final}
 use Rattle.finality.proofs.Ready.{parent-in}
 use Rattle.finality.proofs.Standing.{is-final}

@@ -15,17 +15,18 @@ use Rattle.model.specs.Support.{count, sum, total, supports, quorum, Support, s
 use Rattle.model.specs.WellFormed.{WellFormed, GoodVote}
 use Rattle.model.proofs.Lists.{decided, not-so, lt-or-ge, and-left, and-right, Below, below-found, first-passes, tabulate-at, any-tabulate}
 use Rattle.tables.specs.Places.{placeAt}
+use Rattle.tables.specs.Chains.{Chain}
 use Rattle.tables.proofs.Pointwise.{any-same}
+use Rattle.tables.proofs.Chains.{last-le, linked-earlier, linked-chain}
 use Rattle.state.specs.declared.Witness.{Witness}
 use Rattle.state.specs.State.{Typed, place, memberIn, voteIn, modelOf}
 use Rattle.state.proofs.Held.{members-held}
 use Rattle.state.proofs.Kept.{count-members, count-checkpoints, count-votes}
 use Rattle.finality.specs.declared.voters.Voters.{Voters}
 use Rattle.finality.specs.Bits.{among, sumBelow, countBelow}
-use Rattle.finality.specs.Chains.{nobody, aims, casts, Bucketed, Chain, Walkable}
+use Rattle.finality.specs.Chains.{nobody, aims, casts, ByTarget, Walkable}
 use Rattle.finality.specs.Weights.{Bonds, weightOf, carried}
 use Rattle.finality.proofs.Bits.{sum-same}
-use Rattle.finality.proofs.Chains.{last-le, bucket-chain}
 use Rattle.finality.proofs.Weights.{sum-more}
 
 -- ---- the model's sums over a table of members
@@ -186,11 +187,11 @@ module _ (w : Witness) (typed : Typed w) (good : WellFormed rootHeight (modelOf 
             let cast = and-right (aims (w .targets) t k) (casts who (w .sources) s i k) (b .passes) in
             omega (arith, who-held k (b .inside), eqb-true (getD who k 0) i (and-left (eqb (getD who k 0) i) (eqb (placeAt (w .sources) k) s) cast))
 
-    module _ (head next : List ℕ) (chained : Bucketed (w .targets) (w .«vote_count») head next) where
+    module _ (head next : List ℕ) (chained : ByTarget (w .targets) (w .«vote_count») head next) where
       -- what is gathered for a target: the supporters of the link from each source
       pub backers : (s t : ℕ) (v : Voters) → t < 512 → ((on : ℕ → Bool) (count : ℕ) → Chain on count next (getD head t 0) → (i : ℕ) → among v i ≡ anyBelow count (λ k. on k && casts who (w .sources) s i k)) → Backers w s t v
       backers s t v h all =
-          let is = all (aims (w .targets) t) (w .«vote_count») (bucket-chain chained t h) in
+          let is = all (aims (w .targets) t) (w .«vote_count») (linked-chain (λ k. placeAt (w .targets) k) (chained .linked) t (w .«vote_count») (omega arith) (chained .heads t h)) in
           record { held = λ i l. is i ∙ voted s t i l; beyond = λ i l. is i ∙ unvoted s t i l }
 
       -- the chain of a target can be walked
@@ -202,7 +203,7 @@ module _ (w : Witness) (typed : Typed w) (good : WellFormed rootHeight (modelOf 
             next-long = omega (arith, few-votes, low);
             member = λ k l. omega (arith, who-held k (omega (arith, low)), few-members);
             source = λ k l. omega (arith, vote-held k (omega (arith, low)) .source, count-checkpoints w, few-places);
-            earlier = λ k l. omega (arith, chained .nexts k (omega (arith, low)), last-le (aims (w .targets) (placeAt (w .targets) k)) k);
+            earlier = λ k l. linked-earlier (λ i. placeAt (w .targets) i) (chained .linked) k (omega (arith, low));
           }
         where
           low : getD head t 0 ≤ w .«vote_count»

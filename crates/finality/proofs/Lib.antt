@@ -1,6 +1,5 @@
 pub mod Bits
 pub mod Chains
-pub mod Table
 pub mod Weights
 pub mod Backed
 pub mod Marks

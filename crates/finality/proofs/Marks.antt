@@ -20,18 +20,10 @@ use Rattle.model.proofs.Lists.{both, and-left, and-right, Below, below-found, f
 use Rattle.model.proofs.Tree.{ancestor-later}
 use Rattle.model.proofs.Support.{link-climbs}
 use Rattle.model.proofs.Finality.{justified-true, true-justified}
+use Rattle.tables.proofs.Below.{same-test}
+use Rattle.tables.proofs.Filled.{Filled, filled-more}
 use Rattle.tables.proofs.Pointwise.{any-same}
 use Rattle.finality.specs.Answers.{IsAnalysis}
-use Rattle.finality.proofs.Table.{Filled, filled-more}
-
-pub same-test : {a b : Bool} → (a ≡ true → b ≡ true) → (b ≡ true → a ≡ true) → a ≡ b
-same-test {a} {b} f g = go a b f g
-  where
-    go : (x y : Bool) → (x ≡ true → y ≡ true) → (y ≡ true → x ≡ true) → x ≡ y
-    go true true f g = refl
-    go true false f g = sym (f refl)
-    go false true f g = g refl
-    go false false f g = refl
 
 -- the places below t are marked: each as justified or not, and each as joined to a direct child below t or not
 pub record Marked (m : Model) (justified finalizing : List Bool) (t : ℕ) : Type 0 where

@@ -11,6 +11,7 @@ use Rattle.model.specs.Model.{Checkpoint, noCheckpoint, checkpointAt, parentOf}
 use Rattle.model.specs.Support.{quorum, Support, support, link?}
 use Rattle.model.proofs.Lists.{tabulate-at}
 use Rattle.tables.specs.Places.{placeAt}
+use Rattle.tables.specs.Chains.{Chain}
 use Rattle.state.specs.declared.Witness.{Witness}
 use Rattle.state.specs.State.{checkpointIn, modelOf}
 use Rattle.state.proofs.Kept.{count-checkpoints}
@@ -18,7 +19,7 @@ use Rattle.finality.specs.declared.voters.Voters.{Voters}
 use Rattle.finality.specs.declared.votes.Ballots.{Ballots}
 use Rattle.finality.specs.Ready.{Ready}
 use Rattle.finality.specs.Bits.{among, countBelow}
-use Rattle.finality.specs.Chains.{nobody, casts, Chain, Walkable}
+use Rattle.finality.specs.Chains.{nobody, casts, Walkable}
 use Rattle.finality.specs.Weights.{Bonds, weightOf, carried}
 use Rattle.finality.proofs.Bits.{sum-bound}
 use Rattle.finality.proofs.Backed.{Backers, few-members, few-places, bonds-good, backers, walkable, backed-support, backed-link}
@@ -39,7 +40,7 @@ module _ {w : Witness} {b : Ballots} (r : Ready w b) where
       omega (arith, r .all, sum-bound (w .«member_count») bondLimit (λ i. true) (λ i. getD (w .bonds) i 0) (ready-bonds .each), ready-bonds .fit)
 
   pub ready-walk : (t : ℕ) → t < 512 → Walkable (b .who) (w .sources) (b .next) (getD (b .head) t 0)
-  ready-walk t h = walkable w (r .sound .typed) (r .sound .good) (b .who) (r .found) (b .head) (b .next) (r .chained) t h (r .long) (r .chained .long)
+  ready-walk t h = walkable w (r .sound .typed) (r .sound .good) (b .who) (r .found) (b .head) (b .next) (r .chained) t h (r .long) (r .chained .linked .long)
 
   -- a parent's place is held
   pub ready-parent : (t : ℕ) → 0 < t → t < w .«checkpoint_count» → placeAt (w .parents) t < 512

@@ -1,22 +1,17 @@
 -- The votes in chains by target, and the voters of the links to one target.
-use Prim.Native.Nat.{ℕ, zero, suc, _<_, _≤_}
-use mathlib.Core.Path.{_≡_}
+use Prim.Native.Nat.{ℕ, _<_, _≤_}
 use mathlib.Core.List.{List}
-use mathlib.Core.Bool.{Bool, true, cond, _&&_}
+use mathlib.Core.Bool.{Bool, _&&_}
 use lib.Dec.{eqb}
 use lib.ListN.{length, getD}
 use Rattle.model.specs.declared.Place.{Place}
 use Rattle.tables.specs.Places.{placeAt}
+use Rattle.tables.specs.Chains.{Bucketed}
 use Rattle.finality.specs.declared.voters.Voters.{Voters}
 
 -- no voter
 abbrev pub nobody : Voters
 nobody = record { lo = 0; hi = 0 }
-
--- the last number below n that passes the test, plus 1; 0 where none does
-unfoldable pub lastBelow : ℕ → (ℕ → Bool) → ℕ
-lastBelow zero p = 0
-lastBelow (suc n) p = cond (p n) (suc n) (lastBelow n p)
 
 -- vote k has the target t
 abbrev pub aims : List Place → ℕ → ℕ → Bool
@@ -27,15 +22,8 @@ abbrev pub casts : List ℕ → List Place → ℕ → ℕ → ℕ → Bool
 casts who sources s i k = eqb (getD who k 0) i && eqb (placeAt sources k) s
 
 -- the first `count` votes are in chains by target
-pub record Bucketed (targets : List Place) (count : ℕ) (head next : List ℕ) : Type 0 where
-  pub long : length next ≡ 4096
-  pub heads : (t : ℕ) → t < 512 → getD head t 0 ≡ lastBelow count (aims targets t)
-  pub nexts : (k : ℕ) → k < count → getD next k 0 ≡ lastBelow k (aims targets (placeAt targets k))
-
--- the votes that pass the test, of the first `count`, are a chain that begins with `from`
-pub record Chain (on : ℕ → Bool) (count : ℕ) (next : List ℕ) (from : ℕ) : Type 0 where
-  pub head : from ≡ lastBelow count on
-  pub nexts : (k : ℕ) → k < count → on k ≡ true → getD next k 0 ≡ lastBelow k on
+abbrev pub ByTarget : List Place → ℕ → List ℕ → List ℕ → Type 0
+ByTarget targets count head next = Bucketed (λ k. placeAt targets k) 512 count head next
 
 -- every vote below n is of a held member, from a held place, and its chain goes on with an earlier one
 pub record Walkable (who : List ℕ) (sources : List Place) (next : List ℕ) (n : ℕ) : Type 0 where

@@ -11,7 +11,7 @@ use Rattle.state.specs.declared.Witness.{Witness}
 use Rattle.state.specs.State.{Typed, modelOf}
 use Rattle.finality.specs.declared.votes.Ballots.{Ballots}
 use Rattle.finality.specs.Bits.{sumBelow}
-use Rattle.finality.specs.Chains.{Bucketed}
+use Rattle.finality.specs.Chains.{ByTarget}
 
 -- a state that may be held: arrays of their types, and a well-formed model
 pub record Sound (w : Witness) : Type 0 where
@@ -23,5 +23,5 @@ pub record Ready (w : Witness) (b : Ballots) : Type 0 where
   pub sound : Sound w
   pub long : length (b .who) ≡ 4096
   pub found : (k : ℕ) → k < w .«vote_count» → getD (b .who) k 0 ≡ firstIndex (λ x. eqb x (getD (w .voters) k 0)) (take (w .«member_count») (w .ids))
-  pub chained : Bucketed (w .targets) (w .«vote_count») (b .head) (b .next)
+  pub chained : ByTarget (w .targets) (w .«vote_count») (b .head) (b .next)
   pub all : b .total ≡ sumBelow (w .«member_count») (λ i. true) (λ i. getD (w .bonds) i 0)

@@ -7,8 +7,8 @@ ghost use Prim.Native.Nat.{_≤_, _<_};
 ghost use Rattle.model.specs.Lists.{anyBelow};
 ghost use Rattle.model.specs.Tree.{ancestor?};
 ghost use Rattle.tables.specs.Places.{treeOf, Falling};
+ghost use Rattle.tables.specs.Chains.{lastBelow};
 ghost use Rattle.finality.specs.Answers.{isFinal};
-ghost use Rattle.finality.specs.Chains.{lastBelow};
 
 // The greatest final place plus 1; 0 where none is final.
 pub fn last_final(a: Analysis, places: usize) -> usize

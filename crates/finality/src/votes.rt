@@ -11,8 +11,9 @@ ghost use lib.Dec.{eqb};
 ghost use lib.ListN.{length, getD, take};
 ghost use Rattle.model.specs.Lists.{firstIndex, anyBelow};
 ghost use Rattle.tables.specs.Places.{placeAt};
+ghost use Rattle.tables.specs.Chains.{Chain};
 ghost use Rattle.finality.specs.Bits.{among};
-ghost use Rattle.finality.specs.Chains.{Bucketed, Walkable, Chain, nobody, casts};
+ghost use Rattle.finality.specs.Chains.{ByTarget, Walkable, nobody, casts};
 ghost use Rattle.finality.specs.Ready.{Sound, Ready};
 
 // The place of each vote's member.
@@ -44,7 +45,7 @@ pub struct Buckets {
 // Puts the votes into chains.
 pub fn bucket(targets: [Place; 4096], count: usize) -> Buckets
     requires { ⌜ (count ≤ 4096) × ((k : ℕ) → k < count → placeAt targets k < 512) ⌝ }
-    ensures { λ r. ⌜ Bucketed targets count (r .head) (r .next) ⌝ }
+    ensures { λ r. ⌜ ByTarget targets count (r .head) (r .next) ⌝ }
 {
     let mut head = [0u16; 512];
     let mut next = [0u16; 4096];

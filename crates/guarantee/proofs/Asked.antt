@@ -25,7 +25,8 @@ use Rattle.witness.specs.Calls.{onSound, statusCall, conflictCall, listCall, li
 use Rattle.witness.specs.declared.StatusAnswer.the-variants.{Refused as RefusedStatus}
 use Rattle.witness.specs.declared.ConflictAnswer.the-variants.{Refused as RefusedConflict}
 use Rattle.guarantee.specs.Book.{book, byHeader, onBook, bookLast, recordsRead, IsAnswers, bookBuffer}
-use Rattle.guarantee.specs.LogRead.{Reads, readOf, lastTold, recordsOf, replayed, IsReplay}
+use Rattle.guarantee.specs.LogRead.{Reads, readOf, recordsOf, replayed, IsReplay}
+use Rattle.reader.specs.Many.{lastTold}
 use Rattle.guarantee.specs.declared.Answers.{Answers}
 use Rattle.guarantee.specs.declared.Replayed.{Replayed}
 use Rattle.state.proofs.Started.{header-name}

@@ -52,7 +52,7 @@ pub decided-is : (w : Witness) (b : Model) → Holds w b → (s : List ℕ) → 
 unfolding decided
 decided-is w b h s = on-sound w (λ m. decide m s) (good-sound w (well-formed w b h)) ∙ ap (λ (m : Model). decide m s) (h .model)
 
-pub step-holds : (w : Witness) (b : Model) → Holds w b → (s : List ℕ) → AreBytes s → Holds (store w (decided w s)) (apply b (decide b s))
+step-holds : (w : Witness) (b : Model) → Holds w b → (s : List ℕ) → AreBytes s → Holds (store w (decided w s)) (apply b (decide b s))
 unfolding decideEvent
 step-holds w b h s bytes =
     let kept = reading-kept w (h .typed) s bytes in

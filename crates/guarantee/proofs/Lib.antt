@@ -1,3 +1,4 @@
 pub mod Demand
 mod Onward
+mod Calls
 mod Asked

@@ -2,10 +2,10 @@
 -- come to.
 use Prim.Native.Nat.{ℕ, zero, suc, _+_, _-_, _<_, _≤_}
 use native.Mathlib.Omega.{arith}
-use mathlib.Core.Path.{_≡_, refl, sym, ap, ap₂, _∙_, subst}
+use mathlib.Core.Path.{_≡_, refl, sym, ap, _∙_, subst}
 use mathlib.Core.List.{List, [], _∷_}
 use mathlib.Core.Bool.{Bool, true, false, cond}
-use borrow.Author.Tests.{eqb-true, eqb-false}
+use borrow.Author.Tests.{eq-eqb}
 use lib.Dec.{eqb}
 use lib.ListN.{length, drop, length-drop}
 use lib.Seq.{drop-drop}
@@ -19,27 +19,24 @@ use Rattle.model.specs.declared.Refusal.{Refusal}
 use Rattle.model.specs.Refusals.{refusalNumber}
 use Rattle.model.specs.Run.{Event, reading, Told, nothingLeft, told, readings}
 use Rattle.model.specs.WellFormed.{WellFormed}
-use Rattle.model.proofs.Bytes.{drop-bytes}
-use Rattle.state.specs.Reading.{outcomeOf, startOf, beginWith, IsReading, IsBeginning}
+use Rattle.state.specs.Reading.{startOf, beginWith, IsBeginning}
 use Rattle.state.specs.State.{Typed, emptyWitness, modelOf, store}
 use Rattle.state.specs.declared.Witness.{Witness}
 use Rattle.state.specs.declared.Beginning.{Beginning}
 use Rattle.state.specs.declared.Outcome.the-variants.{Nothing}
-use Rattle.state.specs.declared.Reading.{Reading}
 use Rattle.state.specs.declared.Start.the-variants.{Begun, Refused as RefusedHeader}
 use Rattle.witness.specs.Calls.{decided}
 use Rattle.guarantee.specs.Demand3.{witnessAfter, toldOf}
-use Rattle.guarantee.specs.LogRead.{Reads, lastTold, readOn, readOf, recordsOf, replayed, IsReplay}
+use Rattle.guarantee.specs.LogRead.{Reads, readOn, readOf, recordsOf, replayed, IsReplay}
 use Rattle.guarantee.specs.declared.Read.{Read}
 use Rattle.state.proofs.Started.{header-name}
-use Rattle.guarantee.proofs.Demand.{Holds, decided-is, step-holds, start-holds}
-
--- a sound witness
-abbrev pub Sound : Witness → Type 0
-Sound w = Typed w × WellFormed rootHeight (modelOf w)
+use Rattle.reader.specs.Many.{lastTold}
+use Rattle.reader.proofs.Runs.{Sound, bytes-left, reading-sound}
+use Rattle.reader.proofs.Made.{stays}
+use Rattle.guarantee.proofs.Demand.{Holds, decided-is, start-holds}
 
 holds : (w : Witness) → Sound w → Holds w (modelOf w)
-holds w sound = record { model = refl; typed = sound .0; good = sound .1 }
+holds w sound = record { model = refl; typed = sound .typed; good = sound .good }
 
 -- a reading, and then the others
 first-read : (t : Answer Told) (k : ℕ) (w : Witness) (s : List ℕ) (es : List Event) → readOn t k w (reading s ∷ es) ≡ readOn (told (decided w s)) (k + 1) (store w (decided w s)) es
@@ -59,70 +56,81 @@ first-reading n (x ∷ s) h = refl
 abbrev pub rest : Answer Told → ℕ → Witness → ℕ → List ℕ → ℕ → Reads
 rest t k w n log at = readOn t k w (readings n (drop at log))
 
--- one record, of a log of bytes, into a sound witness
-module _ (w : Witness) (sound : Sound w) (log : List ℕ) (at : ℕ) where
+-- What was read, and what reading on from here comes to, is the whole: k of at most `limit` records were read, the last of them
+-- told `t`, and the witness is sound.
+pub record Sofar (whole : Reads) (limit : ℕ) (log : List ℕ) (t : Answer Told) (k : ℕ) (w : Witness) (at : ℕ) : Type 0 where
+  pub sound : Sound w
+  pub few : k ≤ limit
+  pub same : whole ≡ rest t k w (limit - k) log at
+
+pub none-read : (limit : ℕ) (log : List ℕ) (t : Answer Told) (w : Witness) (at : ℕ) → Sound w → Sofar (rest t 0 w limit log at) limit log t 0 w at
+none-read limit log t w at sound =
+    let all : limit ≡ limit - 0 = omega arith in
+    record { sound = sound; few = omega arith; same = ap (λ (n : ℕ). rest t 0 w n log at) all }
+
+none-left : (n : ℕ) (s : List ℕ) → length s ≡ 0 → readings n s ≡ []
+unfolding readings
+none-left zero s e = refl
+none-left (suc n) [] e = refl
+none-left (suc n) (x ∷ s) e = absurd (omega (arith, e))
+
+module _ {whole : Reads} {limit : ℕ} {log : List ℕ} {t : Answer Told} {k : ℕ} {w : Witness} {at : ℕ} (so : Sofar whole limit log t k w at) where
   abbrev left : List ℕ
   left = drop at log
 
-  pub still-sound : AreBytes log → Sound (store w (decide (modelOf w) left))
-  still-sound bytes =
-      let h = step-holds w (modelOf w) (holds w sound) left (drop-bytes at log bytes) in
-      let same = ap (store w) (decided-is w (modelOf w) (holds w sound) left) in (
-        subst Typed same (h .typed),
-        subst (λ v. WellFormed rootHeight (modelOf v)) same (subst (WellFormed rootHeight) (sym (h .model)) (h .good)),
-      )
+  -- what was read is all, then
+  all-read : readings (limit - k) left ≡ [] → record { last = t; records = k; witness = w } ≡ whole
+  unfolding witnessAfter toldOf lastTold
+  all-read e =
+      let sum : k ≡ k + 0 = omega arith in
+      (λ i. record { last = t; records = sum i; witness = w }) ∙ ap (readOn t k w) (sym e) ∙ sym (so .same)
 
-  -- `r` is its reading, the first of at most n + 1
-  module _ (t : Answer Told) (k n : ℕ) {r : Reading} (inside : at < length log) (is : IsReading w (decide (modelOf w) left) (at + recordLength left) r) where
-    this-record : rest t k w (suc n) log at ≡ readOn (outcomeOf (r .outcome)) (k + 1) (r .witness) (cond (eqb (recordLength left) 0) [] (readings n (drop (recordLength left) left)))
-    this-record =
-        let later = cond (eqb (recordLength left) 0) [] (readings n (drop (recordLength left) left)) in
-        let same : decided w left ≡ decide (modelOf w) left = decided-is w (modelOf w) (holds w sound) left in
-        ap (readOn t k w) (first-reading n left (omega (arith, length-drop at log)))
+  -- where no more may be read
+  pub limit-met : limit ≤ k → record { last = t; records = k; witness = w } ≡ whole
+  unfolding readings
+  limit-met h =
+      let none : limit - k ≡ 0 = omega arith in
+      all-read (ap (λ (n : ℕ). readings n left) none)
+
+  -- and where the log has ended
+  pub log-ended : length log ≤ at → record { last = t; records = k; witness = w } ≡ whole
+  log-ended h = all-read (none-left (limit - k) left (omega (arith, length-drop at log)))
+
+  abbrev a : Answer Change
+  a = decide (modelOf w) left
+
+  -- the record here
+  module _ (inside : at < length log) (below : k < limit) where
+    abbrev behind : List Event
+    behind = readings (limit - (k + 1)) (drop (recordLength left) left)
+
+    this-record : (b : Bool) → eqb (recordLength left) 0 ≡ b → whole ≡ readOn (told a) (k + 1) (store w a) (cond b [] behind)
+    this-record b e =
+        let some : limit - k ≡ suc (limit - (k + 1)) = omega arith in
+        let later = cond (eqb (recordLength left) 0) [] behind in
+        let same : decided w left ≡ a = decided-is w (modelOf w) (holds w (so .sound)) left in
+        so .same
+        ∙ ap (λ (n : ℕ). rest t k w n log at) some
+        ∙ ap (readOn t k w) (first-reading (limit - (k + 1)) left (omega (arith, length-drop at log)))
         ∙ first-read t k w left later
-        ∙ ap (λ (a : Answer Change). readOn (told a) (k + 1) (store w a) later) same
-        ∙ ap₂ (λ (u : Answer Told) (v : Witness). readOn u (k + 1) v later) (sym (is .outcome)) (sym (is .witness))
+        ∙ ap (λ (x : Answer Change). readOn (told x) (k + 1) (store w x) later) same
+        ∙ ap (λ (x : Bool). readOn (told a) (k + 1) (store w a) (cond x [] behind)) e
 
-    -- a record that is unknown or cut is the last that is read
-    pub stops-here : r .next ≡ at → rest t k w (suc n) log at ≡ record { last = outcomeOf (r .outcome); records = k + 1; witness = r .witness }
+    -- one that is unknown or cut is the last that is read
+    pub stops-here : recordLength left ≡ 0 → record { last = told a; records = k + 1; witness = w } ≡ whole
     unfolding witnessAfter toldOf lastTold
-    stops-here same =
-        let none : recordLength left ≡ 0 = omega (arith, is .next, same) in
+    stops-here none =
         let sum : k + 1 + 0 ≡ k + 1 = omega arith in
-        this-record
-        ∙ ap (λ (m : ℕ). readOn (outcomeOf (r .outcome)) (k + 1) (r .witness) (cond (eqb m 0) [] (readings n (drop (recordLength left) left)))) none
-        ∙ (λ i. record { last = outcomeOf (r .outcome); records = sum i; witness = r .witness })
+        sym (this-record true (eq-eqb (recordLength left) 0 none) ∙ (λ i. record { last = told a; records = sum i; witness = stays w (modelOf w) left none i }))
 
     -- any other is passed
-    pub goes-on : (r .next ≡ at → ⊥) → rest t k w (suc n) log at ≡ rest (outcomeOf (r .outcome)) (k + 1) (r .witness) n log (r .next)
-    goes-on more = this-record ∙ go (eqb (recordLength left) 0) refl
-      where
-        go : (b : Bool) → eqb (recordLength left) 0 ≡ b
-            → readOn (outcomeOf (r .outcome)) (k + 1) (r .witness) (cond b [] (readings n (drop (recordLength left) left))) ≡ rest (outcomeOf (r .outcome)) (k + 1) (r .witness) n log (r .next)
-        go true e = absurd (more (omega (arith, is .next, eqb-true (recordLength left) 0 e)))
-        go false e = ap (λ s. readOn (outcomeOf (r .outcome)) (k + 1) (r .witness) (readings n s)) (drop-drop (recordLength left) at log ∙ ap (λ (m : ℕ). drop m log) (sym (is .next)))
-
--- where the log has ended nothing is left to be read
-pub past-end : (n : ℕ) (log : List ℕ) (at : ℕ) → length log ≤ at → readings n (drop at log) ≡ []
-unfolding readings
-past-end n log at past = go n (drop at log) (omega (arith, length-drop at log))
-  where
-    go : (n : ℕ) (s : List ℕ) → length s ≡ 0 → readings n s ≡ []
-    go zero s e = refl
-    go (suc n) [] e = refl
-    go (suc n) (x ∷ s) e = absurd (omega (arith, e))
-
--- nor where no more may be
-pub limit-met : (n : ℕ) (s : List ℕ) → n ≡ 0 → readings n s ≡ []
-unfolding readings
-limit-met n s e = ap (λ (m : ℕ). readings m s) e
-
--- that is all, then
-pub all-read : (t : Answer Told) (k : ℕ) (w : Witness) (es : List Event) → es ≡ [] → record { last = t; records = k; witness = w } ≡ readOn t k w es
-unfolding witnessAfter toldOf lastTold
-all-read t k w es e =
-    let sum : k ≡ k + 0 = omega arith in
-    (λ i. record { last = t; records = sum i; witness = w }) ∙ ap (readOn t k w) (sym e)
+    pub goes-on : AreBytes log → eqb (recordLength left) 0 ≡ false → Sofar whole limit log (told a) (k + 1) (store w a) (at + recordLength left)
+    goes-on bytes more =
+        record {
+          sound = reading-sound w (so .sound) left (bytes-left at log bytes);
+          few = omega arith;
+          same = this-record false more ∙ ap (λ s. readOn (told a) (k + 1) (store w a) (readings (limit - (k + 1)) s)) (drop-drop (recordLength left) at log);
+        }
 
 -- ---- the log's beginning
 
@@ -135,11 +143,11 @@ module _ (w : Witness) (log : List ℕ) (limit : ℕ) (r : Beginning) (is : IsBe
   unfolding beginWith
   begun-empty e = is .witness ∙ ap (beginWith w) (begun-header e)
 
-  pub begun-sound : r .outcome ≡ Begun → Sound (r .witness)
+  pub begun-sound : r .outcome ≡ Begun → Typed (r .witness) × WellFormed rootHeight (modelOf (r .witness))
   begun-sound e =
       let name = part 5 32 log in
       let h = start-holds name (header-name log name (begun-header e)) in
-      subst Sound (sym (begun-empty e)) (h .typed, subst (WellFormed rootHeight) (sym (h .model)) (h .good))
+      subst (λ v. Typed v × WellFormed rootHeight (modelOf v)) (sym (begun-empty e)) (h .typed, subst (WellFormed rootHeight) (sym (h .model)) (h .good))
 
   pub begun-replay : r .outcome ≡ Begun → (read : Read) → readOf read ≡ readOn (answer nothingLeft) 0 (r .witness) (recordsOf limit log)
       → IsReplay w log limit (record { start = Begun; read = read })

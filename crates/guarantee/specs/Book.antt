@@ -18,7 +18,8 @@ use Rattle.evidence.specs.Listed.{listAnswerOf}
 use Rattle.state.specs.Reading.{outcomeOf}
 use Rattle.witness.specs.Answers.{statusOf, conflictOf}
 use Rattle.guarantee.specs.declared.Answers.{Answers}
-use Rattle.guarantee.specs.LogRead.{lastTold, recordsOf}
+use Rattle.reader.specs.Many.{lastTold}
+use Rattle.guarantee.specs.LogRead.{recordsOf}
 
 abbrev pub book : ℕ → List ℕ → List ℕ → Model
 book limit log name = after (start name) (recordsOf limit log)

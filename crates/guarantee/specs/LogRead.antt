@@ -2,7 +2,7 @@
 -- end or its stop is such a run."
 use Prim.Native.Nat.{ℕ, _+_, _≤_}
 use mathlib.Core.Path.{_≡_}
-use mathlib.Core.List.{List, [], _∷_}
+use mathlib.Core.List.{List}
 use lib.ListN.{length, drop}
 use Rattle.model.specs.Answer.{Answer, refused, answer}
 use Rattle.model.specs.Bytes.{AreBytes, part}
@@ -13,6 +13,7 @@ use Rattle.model.specs.Run.{Event, OfBytes, Told, nothingLeft, after, readings}
 use Rattle.state.specs.State.{emptyWitness}
 use Rattle.state.specs.Reading.{outcomeOf, startOf}
 use Rattle.state.specs.declared.Witness.{Witness}
+use Rattle.reader.specs.Many.{lastTold}
 use Rattle.guarantee.specs.declared.Read.{Read}
 use Rattle.guarantee.specs.declared.Replayed.{Replayed}
 use Rattle.guarantee.specs.Demand3.{witnessAfter, toldOf, Guarantee}
@@ -22,11 +23,6 @@ pub record Reads : Type 0 where
   pub last : Answer Told
   pub records : ℕ
   pub witness : Witness
-
--- what the last of them told; `t` where there is none
-unfoldable pub lastTold : Answer Told → List (Answer Told) → Answer Told
-lastTold t [] = t
-lastTold t (u ∷ us) = lastTold u us
 
 -- readings into a witness, where k were made before and the last of those told `t`
 abbrev pub readOn : Answer Told → ℕ → Witness → List Event → Reads

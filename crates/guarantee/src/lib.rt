@@ -9,6 +9,7 @@ use state::Witness;
 use witness::ConflictAnswer;
 use witness::StatusAnswer;
 ghost use mathlib.Core.Path.{_≡_};
+ghost use Prim.Native.Nat.{_≤_, _<_};
 ghost use lib.ListN.{drop};
 ghost use Rattle.model.specs.Answer.{answer};
 ghost use Rattle.model.specs.Limits.{rootHeight};
@@ -27,8 +28,18 @@ pub struct Read {
     pub witness: Witness,
 }
 
+// How many records are read in one call, of so many that may be.
+fn batch(most: u64) -> usize
+    ensures { λ r. ⌜ (r ≤ most) × (r ≤ 1024) × (0 < most → 0 < r) ⌝ }
+{
+    if most < 1024 {
+        return most as usize;
+    }
+    1024
+}
+
 // The records from an offset on, at most `limit` of them, to the log's end or to the first that is unknown or cut, which
-// reading does not pass.
+// reading does not pass. They are read in batches; one that ends before its rows and the log do ended at such a record.
 fn read_rest(w: Witness, log: &[u8], from: usize, limit: u64) -> Read
     requires { ⌜ Typed w × WellFormed rootHeight (modelOf w) ⌝ }
     ensures { λ r. ⌜ readOf r ≡ readOn (answer nothingLeft) 0 w (readings limit (drop from (now (log .entry)))) ⌝ }
@@ -37,27 +48,22 @@ fn read_rest(w: Witness, log: &[u8], from: usize, limit: u64) -> Read
     let mut at = from;
     let mut last = Outcome::Nothing;
     let mut records: u64 = 0;
-    while at < log.len() {
-        if limit <= records {
-            return Read {
-                last,
-                records,
-                witness: held,
-            };
-        }
-        let r = reader::read_at(held, log, at);
-        let next = r.next;
-        last = r.outcome;
+    let mut rows = [0u8; 1024];
+    while (at < log.len()) & (records < limit) {
+        let most = batch(limit - records);
+        let r = reader::read_many(held, log, at, &mut rows[..most]);
         held = r.witness;
-        records += 1;
-        if next == at {
+        at = r.next;
+        last = r.last;
+        records += r.records as u64;
+        if (r.records < most) & (at < log.len()) {
+            let end = r.end;
             return Read {
-                last,
-                records,
+                last: end,
+                records: records + 1,
                 witness: held,
             };
         }
-        at = next;
     }
     Read {
         last,

@@ -1,6 +1,6 @@
 -- What is decided on the bytes from an offset on: nothing, a refusal, or what is added. Rows 4 and 5, then those of the
 -- record's kind, in rising number. Rows 1 to 3, and what makes a kind unknown or a record cut (4 and 5), are in Log.antt;
--- rows 50 to 57 are in Checker.antt. No row is written twice.
+-- rows 50 to 57 are in Checker.antt. None of these rows is written twice.
 use Prim.Native.Nat.{ℕ, _+_}
 use mathlib.Core.List.{List}
 use mathlib.Core.Bool.{Bool, _&&_, _||_, not}

@@ -12,7 +12,7 @@ use Rattle.model.specs.Model.{memberIndex}
 use Rattle.model.specs.Run.{taken, told}
 use Rattle.state.specs.State.{emptyWitness, modelOf, withMember, store}
 use Rattle.state.specs.declared.Witness.{Witness}
-use Rattle.reader.specs.Run.{Many, goOn, readMany}
+use Rattle.reader.specs.Many.{Many, readMany}
 
 abbrev log : List ℕ
 log =
@@ -25,7 +25,11 @@ log =
 abbrev many : ℕ → Many
 many n = readMany n (emptyWitness (replicate 32 0)) log 0
 
--- it stops after the third record, which row 12 refuses; and at the limit
-stops : (many 9 .answer ≡ refused 12) × (many 9 .next ≡ 33) × (many 9 .taken ≡ 2) × (many 1 .answer ≡ answer taken) × (many 1 .next ≡ 11) × (many 1 .taken ≡ 1)
-unfolding row field beOf membersFixed bondOutOfRange idHeld decideMember decideRecord decide firstIndex tabulate recordSize recordLength decode decodeWhole memberIndex told emptyWitness modelOf withMember store goOn readMany
-stops = (refl, refl, refl, refl, refl, refl)
+-- the third record is refused by row 12 and passed, and the cut one ends the reading; and so does the limit
+read-on : many 9 ≡ record { passed = answer taken ∷ answer taken ∷ refused 12 ∷ []; end = refused 5; next = 33; witness = many 2 .witness }
+unfolding row field beOf membersFixed bondOutOfRange idHeld decideMember decideRecord decide firstIndex tabulate recordSize recordLength decode decodeWhole memberIndex told emptyWitness modelOf withMember store readMany
+read-on = refl
+
+limited : (many 1 .passed ≡ answer taken ∷ []) × (many 1 .end ≡ answer taken) × (many 1 .next ≡ 11)
+unfolding row field beOf membersFixed bondOutOfRange idHeld decideMember decideRecord decide firstIndex tabulate recordSize recordLength decode decodeWhole memberIndex told emptyWitness modelOf withMember store readMany
+limited = (refl, refl, refl)

@@ -1,4 +1,5 @@
 pub mod Runs
 pub mod Made
+pub mod Decisions
 pub mod Walks
 pub mod Example

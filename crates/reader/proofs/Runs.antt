@@ -1,27 +1,31 @@
--- Reading on, one reading at a time; what it leaves, said of the model.
-use Prim.Native.Nat.{ℕ, suc, _+_, _-_, _<_, _≤_}
+-- Reading on, one reading at a time.
+use Prim.Native.Nat.{ℕ, suc, _+_, _-_, _<_, _≤_, _^_}
 use native.Mathlib.Omega.{arith}
-use mathlib.Core.Path.{_≡_, sym, ap, ap₂, _∙_, subst}
-use mathlib.Core.List.{List}
+use mathlib.Core.Path.{_≡_, refl, sym, ap, ap₂, _∙_, subst}
+use mathlib.Core.List.{List, [], _∷_, _++_, map, append-assoc, append-nil}
 use mathlib.Core.Bool.{Bool, true, false, cond}
-use lib.ListN.{drop, length-drop}
-use lib.Seq.{getD-drop}
+use borrow.Author.Tests.{eq-eqb, ne-eqb}
+use borrow.Table.Elements.{map-app}
+use lib.Dec.{eqb}
+use lib.ListN.{length, drop, set, getD, length-drop, length-append}
+use lib.Seq.{getD-drop, drop-cons, set-at}
 use Rattle.model.specs.Answer.{Answer, answer}
 use Rattle.model.specs.Bytes.{AreBytes}
 use Rattle.model.specs.Decide.{decide}
 use Rattle.model.specs.Limits.{rootHeight}
 use Rattle.model.specs.Log.{recordLength}
-use Rattle.model.specs.Model.{Model}
-use Rattle.model.specs.Run.{reading, Told, taken, decideEvent}
+use Rattle.model.specs.Model.{Model, Change}
+use Rattle.model.specs.Run.{reading, Told, nothingLeft, taken, told, decideEvent}
 use Rattle.model.specs.WellFormed.{WellFormed}
 use Rattle.model.proofs.Run.{event-good}
 use Rattle.state.specs.State.{Typed, modelOf, store}
 use Rattle.state.specs.Reading.{outcomeOf, IsReading}
+use Rattle.state.specs.declared.Outcome.{Outcome}
+use Rattle.state.specs.declared.Outcome.the-variants.{Nothing, Taken}
 use Rattle.state.specs.declared.Witness.{Witness}
-use Rattle.state.specs.declared.Reading.{Reading}
-use Rattle.state.specs.declared.Outcome.the-variants.{Taken}
 use Rattle.state.proofs.Kept.{reading-kept}
-use Rattle.reader.specs.Run.{Many, counted, takes, goOn, readMany, IsRun}
+use Rattle.reader.specs.Many.{Many, behind, readMany, lastTold, rowOf, IsBatch}
+use Rattle.reader.specs.declared.Batch.{Batch}
 
 -- what is left of bytes consists of bytes
 pub bytes-left : (at : ℕ) (log : List ℕ) → AreBytes log → AreBytes (drop at log)
@@ -42,69 +46,129 @@ reading-sound w sound s h =
       good = subst (λ (m : Model). WellFormed rootHeight m) (sym (kept .model)) (event-good rootHeight (modelOf w) (sound .good) (reading s) h);
     }
 
+-- ---- the rows
+
+pub last-is : (t u : Answer Told) (ts : List (Answer Told)) → lastTold t (ts ++ u ∷ []) ≡ u
+unfolding lastTold
+last-is t u [] = refl
+last-is t u (v ∷ ts) = last-is v u ts
+
+-- and where there is one, it is no matter what is said where there is none
+pub any-last : (t u : Answer Told) (ts : List (Answer Told)) → 0 < length ts → lastTold t ts ≡ lastTold u ts
+unfolding lastTold
+any-last t u [] h = absurd (omega arith)
+any-last t u (v ∷ ts) h = refl
+
+pub length-rows : (ts : List (Answer Told)) → length (map rowOf ts) ≡ length ts
+length-rows [] = refl
+length-rows (t ∷ ts) = ap suc (length-rows ts)
+
+-- one more row, behind those that stand
+row-set : (ts : List (Answer Told)) (t : Answer Told) (i : ℕ) (before : List ℕ) → length ts ≡ i → i < length before
+    → set (map rowOf ts ++ drop i before) i (rowOf t) ≡ map rowOf (ts ++ t ∷ []) ++ drop (i + 1) before
+row-set ts t i before n h =
+    let one : suc i ≡ i + 1 = omega arith in
+    ap (λ (l : List ℕ). set (map rowOf ts ++ l) i (rowOf t)) (drop-cons before i 0 h)
+    ∙ set-at (map rowOf ts) (getD before i 0) (drop (suc i) before) (rowOf t) i (length-rows ts ∙ n)
+    ∙ sym (append-assoc (map rowOf ts) (rowOf t ∷ []) (drop (suc i) before))
+    ∙ ap₂ (λ (f b : List ℕ). f ++ b) (sym (map-app rowOf ts (t ∷ []))) (ap (λ (k : ℕ). drop k before) one)
+
 -- ---- the loop
 
--- at the start all is left to be read
-pub none-read : (n : ℕ) (w : Witness) (log : List ℕ) (at : ℕ) → readMany n w log at ≡ counted 0 (readMany (n - 0) w log at)
-none-read n w log at =
-    let m = readMany n w log at in
-    let sum : m .taken ≡ 0 + m .taken = omega arith in
-    let same : n ≡ n - 0 = omega arith in
-    (λ i. record { answer = m .answer; next = m .next; taken = sum i; witness = m .witness }) ∙ ap (λ (k : ℕ). counted 0 (readMany k w log at)) same
+-- what was passed so far, and what remains, is the whole
+pub record Sofar (m : Many) (log before rows : List ℕ) (held : Witness) (next : ℕ) (last : Outcome) (i : ℕ) : Type 0 where
+  pub told-so-far : List (Answer Told)
+  pub count : length told-so-far ≡ i
+  pub few : i ≤ length before
+  pub rows-so-far : rows ≡ map rowOf told-so-far ++ drop i before
+  pub last-told : outcomeOf last ≡ lastTold (answer nothingLeft) told-so-far
+  pub whole : m ≡ behind told-so-far (readMany (length before - i) held log next)
+  pub sound : Sound held
+  pub fits : next < 2 ^ 64
 
--- all that may be read was taken
-pub all-read : (k n : ℕ) (w : Witness) (log : List ℕ) (at : ℕ) (m : Many) → n ≤ k → k ≤ n → m ≡ counted k (readMany (n - k) w log at)
-    → IsRun m (record { outcome = Taken; next = at; taken = k; witness = w })
-unfolding readMany
-all-read k n w log at m h l e =
-    let done : n - k ≡ 0 = omega arith in
-    let whole : m ≡ counted k (readMany 0 w log at) = e ∙ ap (λ (j : ℕ). counted k (readMany j w log at)) done in
+pub none-yet : (w : Witness) (log : List ℕ) (at : ℕ) (before : List ℕ) → Sound w → at < 2 ^ 64 → Sofar (readMany (length before) w log at) log before before w at Nothing 0
+unfolding lastTold
+none-yet w log at before sound fits =
+    let all : length before ≡ length before - 0 = omega arith in
     record {
-      outcome = sym (ap (λ (x : Many). x .answer) whole);
-      next = sym (ap (λ (x : Many). x .next) whole);
-      taken = omega (arith, ap (λ (x : Many). x .taken) whole);
-      witness = sym (ap (λ (x : Many). x .witness) whole);
+      told-so-far = [];
+      count = refl;
+      few = omega arith;
+      rows-so-far = refl;
+      last-told = refl;
+      whole = ap (λ (n : ℕ). readMany n w log at) all;
+      sound = sound;
+      fits = fits;
     }
 
--- one reading, of what remains
-module _ (limit k : ℕ) (w : Witness) (log : List ℕ) (at : ℕ) {m : Many} {r : Reading} (below : k < limit)
-    (whole : m ≡ counted k (readMany (limit - k) w log at))
-    (is : IsReading w (decide (modelOf w) (drop at log)) (at + recordLength (drop at log)) r) where
-  abbrev after-it : Witness
-  after-it = store w (decide (modelOf w) (drop at log))
+module _ {m : Many} {log before rows : List ℕ} {held : Witness} {next : ℕ} {last : Outcome} {i : ℕ} (so : Sofar m log before rows held next last i) where
+  pub rows-length : length rows ≡ length before
+  rows-length =
+      ap length (so .rows-so-far) ∙ length-append (map rowOf (so .told-so-far)) (drop i before)
+      ∙ omega (arith, length-rows (so .told-so-far), so .count, so .few, length-drop i before)
 
-  abbrev past-it : ℕ
-  past-it = at + recordLength (drop at log)
-
-  abbrev on : ℕ → Many
-  on n = readMany n after-it log past-it
-
-  opened : (b : Bool) → takes (outcomeOf (r .outcome)) ≡ b
-      → m ≡ counted k (cond b (counted 1 (on (limit - (k + 1)))) (record { answer = outcomeOf (r .outcome); next = past-it; taken = 0; witness = after-it }))
-  unfolding readMany goOn
-  opened b e =
-      let some-left : limit - k ≡ suc (limit - (k + 1)) = omega arith in
-      whole
-      ∙ ap (λ (n : ℕ). counted k (readMany n w log at)) some-left
-      ∙ ap (λ (t : Answer Told). counted k (goOn t past-it after-it (on (limit - (k + 1))))) (sym (is .outcome))
-      ∙ ap (λ (c : Bool). counted k (cond c (counted 1 (on (limit - (k + 1)))) (record { answer = outcomeOf (r .outcome); next = past-it; taken = 0; witness = after-it }))) e
-
-  -- it took its record
-  pub one-more : takes (outcomeOf (r .outcome)) ≡ true → m ≡ counted (k + 1) (readMany (limit - (k + 1)) (r .witness) log (r .next))
-  one-more e =
-      let x = on (limit - (k + 1)) in
-      let sum : k + (1 + x .taken) ≡ k + 1 + x .taken = omega arith in
-      opened true e
-      ∙ (λ i. record { answer = x .answer; next = x .next; taken = sum i; witness = x .witness })
-      ∙ ap₂ (λ (v : Witness) (n : ℕ). counted (k + 1) (readMany (limit - (k + 1)) v log n)) (sym (is .witness)) (sym (is .next))
-
-  -- it did not: that is what reading on comes to
-  pub no-more : takes (outcomeOf (r .outcome)) ≡ false → IsRun m (record { outcome = r .outcome; next = r .next; taken = k; witness = r .witness })
-  no-more e =
-      let ends = opened false e in
+  -- no more is passed: the rest of the reading has this end
+  ends-with : {o : Outcome} → readMany (length before - i) held log next ≡ record { passed = []; end = outcomeOf o; next = next; witness = held }
+      → IsBatch m before (record { end = o; last = last; next = next; records = i; witness = held }) rows
+  ends-with {o} e =
+      let all : m ≡ record { passed = so .told-so-far ++ []; end = outcomeOf o; next = next; witness = held } = so .whole ∙ ap (behind (so .told-so-far)) e in
+      let told-all : m .passed ≡ so .told-so-far = ap (λ (x : Many). x .passed) all ∙ append-nil (so .told-so-far) in
       record {
-        outcome = sym (ap (λ (x : Many). x .answer) ends);
-        next = is .next ∙ sym (ap (λ (x : Many). x .next) ends);
-        taken = omega (arith, ap (λ (x : Many). x .taken) ends);
-        witness = is .witness ∙ sym (ap (λ (x : Many). x .witness) ends);
+        end = sym (ap (λ (x : Many). x .end) all);
+        last = so .last-told ∙ ap (lastTold (answer nothingLeft)) (sym told-all);
+        next = sym (ap (λ (x : Many). x .next) all);
+        records = sym (ap length told-all ∙ so .count);
+        witness = sym (ap (λ (x : Many). x .witness) all);
+        rows = so .rows-so-far ∙ (λ k. map rowOf (sym told-all k) ++ drop ((sym (so .count) ∙ ap length (sym told-all)) k) before);
       }
+
+  -- there is no room for another row
+  pub all-read : length rows ≤ i → IsBatch m before (record { end = Taken; last = last; next = next; records = i; witness = held }) rows
+  unfolding readMany
+  all-read past =
+      let none : length before - i ≡ 0 = omega (arith, rows-length) in
+      ends-with {o = Taken} (ap (λ (n : ℕ). readMany n held log next) none)
+
+  abbrev s : List ℕ
+  s = drop next log
+
+  abbrev a : Answer Change
+  a = decide (modelOf held) s
+
+  -- the record at the offset
+  module _ (room : i < length rows) where
+    first : (b : Bool) → eqb (recordLength s) 0 ≡ b
+        → readMany (length before - i) held log next
+        ≡ cond b (record { passed = []; end = told a; next = next; witness = held }) (behind (told a ∷ []) (readMany (length before - (i + 1)) (store held a) log (next + recordLength s)))
+    unfolding readMany
+    first b e =
+        let some : length before - i ≡ suc (length before - (i + 1)) = omega (arith, rows-length) in
+        ap (λ (n : ℕ). readMany n held log next) some
+        ∙ ap (λ (c : Bool). cond c (record { passed = []; end = told a; next = next; witness = held }) (behind (told a ∷ []) (readMany (length before - (i + 1)) (store held a) log (next + recordLength s)))) e
+
+    -- it cannot be passed
+    pub ended : {o : Outcome} → outcomeOf o ≡ told a → recordLength s ≡ 0 → IsBatch m before (record { end = o; last = last; next = next; records = i; witness = held }) rows
+    ended {o} t e =
+        ends-with {o = o} (first true (eq-eqb (recordLength s) 0 e) ∙ ap (λ (u : Answer Told). record { passed = []; end = u; next = next; witness = held }) (sym t))
+
+    -- it is passed, and its row is set
+    pub passed : {o : Outcome} {n : ℕ} {v : Witness} → outcomeOf o ≡ told a → n ≡ recordLength s → (n ≡ 0 → ⊥) → v ≡ store held a → next + n < 2 ^ 64 → AreBytes log
+        → Sofar m log before (set rows i (rowOf (outcomeOf o))) v (next + n) o (i + 1)
+    passed {o} {n} {v} t size some stored within bytes =
+        let ts = so .told-so-far in
+        let x = readMany (length before - (i + 1)) v log (next + n) in
+        record {
+          told-so-far = ts ++ outcomeOf o ∷ [];
+          count = length-append ts (outcomeOf o ∷ []) ∙ omega (arith, so .count);
+          few = omega (arith, rows-length);
+          rows-so-far = ap (λ (l : List ℕ). set l i (rowOf (outcomeOf o))) (so .rows-so-far) ∙ row-set ts (outcomeOf o) i before (so .count) (omega (arith, rows-length));
+          last-told = sym (last-is (answer nothingLeft) (outcomeOf o) ts);
+          whole =
+              so .whole
+              ∙ ap (behind ts)
+              (first false (ne-eqb (recordLength s) 0 (λ e. some (size ∙ e)))
+              ∙ (λ k. behind (sym t k ∷ []) (readMany (length before - (i + 1)) (sym stored k) log (next + sym size k))))
+              ∙ (λ k. record { passed = sym (append-assoc ts (outcomeOf o ∷ []) (x .passed)) k; end = x .end; next = x .next; witness = x .witness });
+          sound = subst Sound (sym stored) (reading-sound held (so .sound) s (bytes-left next log bytes));
+          fits = within;
+        }

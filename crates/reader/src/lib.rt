@@ -1,69 +1,146 @@
 // Reading a log on: several records in one call, and the log reader that document 01 names.
+use state::Decision;
 use state::Outcome;
 use state::Reading;
 use state::Witness;
 ghost use mathlib.Core.Path.{_≡_};
 ghost use Prim.Native.Nat.{_+_};
-ghost use lib.ListN.{drop};
+ghost use lib.ListN.{length, drop};
 ghost use Rattle.model.specs.Decide.{decide};
 ghost use Rattle.model.specs.Log.{recordLength};
 ghost use Rattle.model.specs.Limits.{rootHeight};
 ghost use Rattle.model.specs.WellFormed.{WellFormed};
 ghost use Rattle.state.specs.State.{Typed, modelOf};
 ghost use Rattle.state.specs.Reading.{outcomeOf, IsReading};
-ghost use Rattle.reader.specs.Run.{takes, readMany, IsRun};
+ghost use Rattle.reader.specs.Many.{rowOf, readMany, IsBatch};
 
-// What reading on comes to: the outcome of the last reading, the offset to go on from, how many records were taken, and
-// the witness as it is then.
-pub struct Run {
-    pub outcome: Outcome,
+// What reading on comes to: what ended it (where as many records were passed as rows were lent, nothing did, and this is
+// `Taken`), what the last record that was passed came to (`Nothing` where none was), the offset to go on from, how many records
+// were passed, and the witness.
+pub struct Batch {
+    pub end: Outcome,
+    pub last: Outcome,
     pub next: usize,
-    pub taken: u64,
+    pub records: usize,
     pub witness: Witness,
 }
 
-// Whether the reading took its record.
-fn is_taken(o: Outcome) -> bool
-    ensures { λ r. ⌜ r ≡ takes (outcomeOf o) ⌝ }
+// The number of the row that refused a record; 0 where none did.
+fn row_of(o: Outcome) -> u8
+    ensures { λ r. ⌜ r ≡ rowOf (outcomeOf o) ⌝ }
 {
     match o {
-        Outcome::Taken => true,
-        Outcome::Nothing => false,
-        Outcome::Refused(_) => false,
+        Outcome::Refused(r) => refusals::refusal_number(r),
+        Outcome::Nothing => 0,
+        Outcome::Taken => 0,
     }
 }
 
-// The records from `at` on, into a sound witness, as long as each is taken, and at most `limit` of them. Where `limit` of
-// them were taken, the outcome is `Taken`, also where `limit` is 0.
-pub fn read_run(w: Witness, log: &[u8], at: usize, limit: u64) -> Run
+// The records from `at` on, into a sound witness, to the log's end or its stop, or as many as there are rows lent; the row of
+// each goes there. The state is owned here alone and written in place: it is large, and a function that took it and gave it
+// back for each record would copy it each time.
+pub fn read_many(w: Witness, log: &[u8], at: usize, rows: &mut [u8]) -> Batch
     requires { ⌜ Typed w × WellFormed rootHeight (modelOf w) ⌝ }
-    ensures { λ r. ⌜ IsRun (readMany limit w (now (log .entry)) at) r ⌝ }
+    ensures { λ r. ⌜ IsBatch (readMany (length (now (rows .entry))) w (now (log .entry)) at) (now (rows .entry)) r (now (rows .exit)) ⌝ }
 {
     let mut held = w;
     let mut next = at;
-    let mut taken: u64 = 0;
-    while taken < limit {
-        let r = read_at(held, log, next);
-        let outcome = r.outcome;
-        let after = r.witness;
-        held = after;
-        next = r.next;
-        if is_taken(outcome) {
-            taken += 1;
-        } else {
-            return Run {
-                outcome,
+    let mut last = Outcome::Nothing;
+    let mut i: usize = 0;
+    while i < rows.len() {
+        let members = held.member_count;
+        let checkpoints = held.checkpoint_count;
+        let votes = held.vote_count;
+        let parents = held.parents;
+        let heights = held.heights;
+        let sources = held.sources;
+        let targets = held.targets;
+        let d = state::decide_record(
+            &held.ids,
+            members,
+            &held.names,
+            parents,
+            heights,
+            checkpoints,
+            &held.voters,
+            sources,
+            targets,
+            votes,
+            log,
+            next,
+        );
+        let outcome = state::outcome_of(d);
+        let passed = state::passed_by(d);
+        if passed == 0 {
+            return Batch {
+                end: outcome,
+                last,
                 next,
-                taken,
+                records: i,
                 witness: held,
             };
         }
+        match d {
+            Decision::Member(id, bond) => {
+                held.ids[members] = id;
+                held.bonds[members] = bond;
+                held.member_count = members + 1;
+            }
+            Decision::Checkpoint(p, h) => {
+                state::copy_name(&mut held.names, checkpoints * 32, log, next + 1);
+                held.parents[checkpoints] = p;
+                held.heights[checkpoints] = h;
+                held.checkpoint_count = checkpoints + 1;
+            }
+            Decision::Vote(id, s, t) => {
+                held.voters[votes] = id;
+                held.sources[votes] = s;
+                held.targets[votes] = t;
+                held.vote_count = votes + 1;
+            }
+            Decision::Nothing => {}
+            Decision::Refuse(_, _) => {}
+        }
+        rows[i] = row_of(outcome);
+        last = outcome;
+        next += passed;
+        i += 1;
     }
-    Run {
-        outcome: Outcome::Taken,
+    Batch {
+        end: Outcome::Taken,
+        last,
         next,
-        taken,
+        records: i,
         witness: held,
+    }
+}
+
+// The record at `from`, into a sound witness.
+fn read_record(w: Witness, log: &[u8], from: usize) -> Reading
+    requires { ⌜ Typed w × WellFormed rootHeight (modelOf w) ⌝ }
+    ensures { λ r. ⌜
+        IsReading w
+        (decide (modelOf w) (drop from (now (log .entry))))
+        (from + recordLength (drop from (now (log .entry))))
+        r
+        ⌝ }
+{
+    let mut row = [0u8; 1];
+    let r = read_many(w, log, from, &mut row);
+    let witness = r.witness;
+    let end = r.end;
+    let last = r.last;
+    if r.records == 0 {
+        return Reading {
+            outcome: end,
+            next: r.next,
+            witness,
+        };
+    }
+    Reading {
+        outcome: last,
+        next: r.next,
+        witness,
     }
 }
 
@@ -90,7 +167,7 @@ pub fn next_record<'a>(r: LogReader<'a>, w: Witness) -> Reading
         s
         ⌝ }
 {
-    state::read_record(w, r.log, r.at)
+    read_record(w, r.log, r.at)
 }
 
 // The record at `at`, by a log reader; whoever calls it names no reader.

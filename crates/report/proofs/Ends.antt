@@ -14,7 +14,6 @@ use Rattle.model.specs.Model.{Model}
 use Rattle.model.specs.Refusals.{refusalNumber}
 use Rattle.model.specs.Report.{summary, stoppedLine}
 use Rattle.model.specs.declared.Refusal.{Refusal}
-use Rattle.model.specs.declared.Refusal.the-variants.{UnsoundState}
 use Rattle.state.specs.Reading.{startOf, beginWith, IsBeginning}
 use Rattle.state.specs.State.{emptyWitness, modelOf}
 use Rattle.state.specs.declared.Beginning.{Beginning}
@@ -24,23 +23,15 @@ use Rattle.text.proofs.Putting.{none}
 use Rattle.witness.specs.Calls.{sound?}
 use Rattle.report.specs.Feed.{Feeding, full, ended, wants, refusedBy, pausedAt, lineRoom, onSound, headed, openCall, endText, endFed, IsFed}
 use Rattle.report.specs.declared.Fed.{Fed}
-use Rattle.report.specs.declared.Pause.the-variants.{Wants, Refused}
-use Rattle.report.proofs.Told.{paused-fed}
+use Rattle.report.specs.declared.Pause.the-variants.{Wants}
 
 -- ---- row 40
 
-module _ (w : Witness) (k : ℕ) (f : Feeding) where
-  pub unsound-fed : sound? w ≡ false → (at : ℕ) (buf : List ℕ) → IsFed (onSound w k f) at 0 buf (record { pause = Refused UnsoundState; next = at; records = k; written = 0; witness = w }) buf
-  unfolding onSound
-  unsound-fed e at buf =
-      paused-fed w k at 0 [] buf buf (Refused UnsoundState) (ap (λ (b : Bool). cond b f (pausedAt [] (refusedBy 40) w k)) (sym e)) (none buf 0 (omega arith))
-
-  passes : sound? w ≡ true → f ≡ onSound w k f
-  unfolding onSound
-  passes e = ap (λ (b : Bool). cond b f (pausedAt [] (refusedBy 40) w k)) (sym e)
-
-  pub sound-fed : sound? w ≡ true → {at : ℕ} {buf after : List ℕ} {r : Fed} → IsFed f at 0 buf r after → IsFed (onSound w k f) at 0 buf r after
-  sound-fed e {at} {buf} {after} {r} is = subst (λ (g : Feeding). IsFed g at 0 buf r after) (passes e) is
+-- a call that is refused by it, or is not
+pub on-sound : (w : Witness) (k : ℕ) (f : Feeding) (b : Bool) → sound? w ≡ b → {at : ℕ} {buf after : List ℕ} {r : Fed} → IsFed (cond b f (pausedAt [] (refusedBy 40) w k)) at 0 buf r after
+    → IsFed (onSound w k f) at 0 buf r after
+unfolding onSound
+on-sound w k f b e {at} {buf} {after} {r} is = subst (λ (c : Bool). IsFed (cond c f (pausedAt [] (refusedBy 40) w k)) at 0 buf r after) (sym e) is
 
 -- ---- the header
 

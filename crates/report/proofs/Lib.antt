@@ -1,4 +1,5 @@
 mod Told
+mod Rows
 mod Onward
 mod Ends
 pub mod Inside

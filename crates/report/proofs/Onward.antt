@@ -1,33 +1,35 @@
 -- Reading on with the lines of what is refused: what was written and passed so far, and what reading on from here comes to, is
 -- the whole.
-use Prim.Native.Nat.{ℕ, zero, suc, _+_, _-_, _<_, _≤_}
+use Prim.Native.Nat.{ℕ, zero, suc, _+_, _*_, _-_, _<_, _≤_}
 use native.Mathlib.Omega.{arith}
-use mathlib.Core.Path.{_≡_, refl, sym, ap, ap₂, _∙_, subst}
-use mathlib.Core.List.{List, [], _∷_, _++_, append-assoc}
-use mathlib.Core.Bool.{Bool, true, false, cond, _||_}
-use borrow.Author.Tests.{eq-eqb, ne-eqb, eqb-false, ltb-false}
-use lib.Dec.{eqb, ltb}
-use lib.ListN.{length, drop, length-drop}
-use lib.Seq.{drop-drop}
+use mathlib.Core.Path.{_≡_, refl, sym, ap, ap₂, _∙_, subst, transport}
+use mathlib.Core.List.{List, [], _∷_, _++_, map, append-assoc}
+use mathlib.Core.Bool.{Bool, true, false, cond, _&&_, _||_}
+use borrow.Author.Tests.{eq-eqb, ne-eqb, eqb-false, le-ltb, ltb-true, ltb-false, le-leb, leb-true}
+use lib.Dec.{eqb, ltb, leb}
+use lib.ListN.{length, take, drop, length-map, length-append, length-drop}
+use lib.Seq.{take-at, drop-drop}
 use Rattle.model.specs.Answer.{Answer}
 use Rattle.model.specs.Bytes.{AreBytes}
-use Rattle.model.specs.Decide.{decide, decideRecord}
-use Rattle.model.specs.Log.{recordSize, recordLength, decode, decodeWhole, unknownKind, cutRecord}
-use Rattle.model.specs.Model.{Model, Change}
-use Rattle.model.specs.Report.{stops?, outcomeLine}
-use Rattle.model.proofs.Lists.{clash}
-use Rattle.model.proofs.Readings.{whole-goes-on}
-use Rattle.state.specs.Reading.{IsReading}
+use Rattle.model.specs.Decide.{decide}
+use Rattle.model.specs.Log.{recordLength}
+use Rattle.model.specs.Model.{Change}
+use Rattle.model.specs.Report.{outcomeLine}
+use Rattle.model.specs.Run.{Told, told}
+use Rattle.state.specs.Reading.{outcomeOf}
 use Rattle.state.specs.State.{modelOf, store}
-use Rattle.state.specs.declared.Reading.{Reading}
 use Rattle.state.specs.declared.Witness.{Witness}
 use Rattle.reader.proofs.Runs.{Sound, bytes-left, reading-sound}
-use Rattle.reader.proofs.Made.{length-inside}
+use Rattle.reader.proofs.Made.{length-inside, while-passed, many-ends}
+use Rattle.reader.specs.Many.{Many, readMany, rowOf, IsBatch}
+use Rattle.reader.specs.declared.Batch.{Batch}
 use Rattle.text.specs.Put.{Put}
 use Rattle.text.proofs.Putting as Putting
 use Rattle.report.specs.Feed.{Feeding, full, pausedAt, ahead, lineRoom, lastNumber, halted, feedFrom, IsFed}
+use Rattle.report.specs.Rows.{rowLines}
 use Rattle.report.specs.declared.Fed.{Fed}
 use Rattle.report.specs.declared.Pause.the-variants.{Full}
+use Rattle.report.proofs.Rows.{and-true, told-more, passed-line}
 
 -- `whole` is what the call comes to; the text so far stands in the buffer, from 0 to `end`
 pub record Sofar (whole : Feeding) (log : List ℕ) (at : ℕ) (before : List ℕ) (buf : List ℕ) (held : Witness) (k next end : ℕ) : Type 0 where
@@ -41,28 +43,27 @@ pub record Sofar (whole : Feeding) (log : List ℕ) (at : ℕ) (before : List �
   pub put : Put before 0 text buf end
   pub more : whole ≡ ahead text passed (feedFrom (suc fuel) (length before - end) held k (drop next log))
 
-or-false : (a b : Bool) → (a || b) ≡ false → (a ≡ false) × (b ≡ false)
-or-false true b e = clash refl e
-or-false false b e = (refl, e)
-
 ne-zero : (n : ℕ) → (n ≡ 0 → ⊥) → 0 < n
 ne-zero zero h = absurd (h refl)
 ne-zero (suc n) h = omega arith
 
-below : (k : ℕ) → k ≤ lastNumber → (k ≡ lastNumber → ⊥) → k < lastNumber
-below k few other = omega (arith, other)
+-- what `read_on` tests: a line fits, and a number is left
+abbrev pub goesOn : (room k : ℕ) → Bool
+goesOn room k = leb lineRoom room && ltb k lastNumber
 
--- where no record can be passed, none is taken
-stays : (w : Witness) (m : Model) (s : List ℕ) → recordLength s ≡ 0 → store w (decide m s) ≡ w
-unfolding decide decode recordLength decideRecord store
-stays w m [] e = refl
-stays w m (kind ∷ s) e = go (eqb (recordSize kind) 0) (ltb (length (kind ∷ s)) (recordSize kind)) refl e
+pub room-and-number : (room k : ℕ) → goesOn room k ≡ true → (lineRoom ≤ room) × (k < lastNumber)
+room-and-number room k e = let both = and-true (leb lineRoom room) (ltb k lastNumber) e in (leb-true lineRoom room (both .0), ltb-true k lastNumber (both .1))
+
+-- where it fails, the call is full
+full-then : (room k : ℕ) → k ≤ lastNumber → goesOn room k ≡ false → (ltb room lineRoom || eqb k lastNumber) ≡ true
+full-then room k few e = go (ltb room lineRoom) refl
   where
-    go : (unknown cut : Bool) → eqb (recordSize kind) 0 ≡ unknown → cond cut 0 (recordSize kind) ≡ 0
-        → store w (decideRecord m (cond unknown unknownKind (cond cut cutRecord (decodeWhole kind (kind ∷ s))))) ≡ w
-    go true cut u e = refl
-    go false true u e = refl
-    go false false u e = clash (eq-eqb (recordSize kind) 0 e) u
+    go : (short : Bool) → ltb room lineRoom ≡ short → (short || eqb k lastNumber) ≡ true
+    go true s = refl
+    go false s =
+        let fits = le-leb lineRoom room (ltb-false room lineRoom s) in
+        let last = ltb-false k lastNumber (ap (λ (b : Bool). b && ltb k lastNumber) (sym fits) ∙ e) in
+        eq-eqb k lastNumber (omega (arith, few, last))
 
 -- at the start all is left
 pub none-yet : (w : Witness) (k : ℕ) (log : List ℕ) (at : ℕ) (buf : List ℕ) → Sound w → k ≤ lastNumber
@@ -112,77 +113,165 @@ module _ {whole : Feeding} {log : List ℕ} {at : ℕ} {before buf : List ℕ} {
   same-room : length before - end ≡ length buf - end
   same-room = ap (λ (n : ℕ). n - end) (sym (Putting.kept (so .put)))
 
+  abbrev size : ℕ
+  size = recordLength left
+
+  abbrev passing : Bool → Feeding
+  passing b = cond b (halted a held k) (ahead (outcomeLine k a) size (feedFrom (so .fuel) (length before - end - length (outcomeLine k a)) (store held a) (k + 1) (drop size left)))
+
   abbrev branches : Bool → Feeding
-  branches b =
-      cond b (pausedAt [] full held k)
-      (cond (eqb (recordLength left) 0) (halted a held k)
-      (ahead (outcomeLine k a) (recordLength left) (feedFrom (so .fuel) (length before - end - length (outcomeLine k a)) (store held a) (k + 1) (drop (recordLength left) left))))
+  branches b = cond b (pausedAt [] full held k) (passing (eqb size 0))
 
   opened : (b : Bool) → (ltb (length buf - end) lineRoom || eqb k lastNumber) ≡ b → feedFrom (suc (so .fuel)) (length before - end) held k left ≡ branches b
   unfolding feedFrom
   opened b e = ap branches (ap (λ (n : ℕ). ltb n lineRoom || eqb k lastNumber) same-room ∙ e)
 
   -- no room, or no number
-  pub full-here : (ltb (length buf - end) lineRoom || eqb k lastNumber) ≡ true → IsFed whole at 0 before (record { pause = Full; next = next; records = k; written = end; witness = held }) buf
+  pub full-here : goesOn (length buf - end) k ≡ false → IsFed whole at 0 before (record { pause = Full; next = next; records = k; written = end; witness = held }) buf
   full-here e =
-      paused-here (opened true e)
+      paused-here (opened true (full-then (length buf - end) k (so .numbered) e))
       (record { pause = refl; next = omega arith; records = refl; witness = refl; text = Putting.none buf end end-inside })
 
-  module _ (go : (ltb (length buf - end) lineRoom || eqb k lastNumber) ≡ false) {r : Reading} (is : IsReading held a (next + recordLength left) r) where
-    -- a line fits, and a number is left
-    pub room-here : end + 64 ≤ length buf
-    room-here = omega (arith, ltb-false (length buf - end) lineRoom (or-false (ltb (length buf - end) lineRoom) (eqb k lastNumber) go .0), end-inside)
+  module _ (room : lineRoom ≤ length buf - end) (number : k < lastNumber) where
+    goes-on : (b : Bool) → eqb size 0 ≡ b → feedFrom (suc (so .fuel)) (length before - end) held k left ≡ passing b
+    goes-on b e = opened false (ap₂ _||_ (le-ltb (length buf - end) lineRoom room) (ne-eqb k lastNumber (λ e. omega (arith, number, e)))) ∙ ap passing e
 
-    pub number-here : k < lastNumber
-    number-here = below k (so .numbered) (eqb-false k lastNumber (or-false (ltb (length buf - end) lineRoom) (eqb k lastNumber) go .1))
-
-    -- a record that is passed lies within the log, and does not stop the reading
-    pub inside-here : (r .next ≡ next → ⊥) → (next < r .next) × (r .next ≤ length log)
-    inside-here more =
-        let size = recordLength left in
-        let some = ne-zero size (λ e. more (omega (arith, is .next, e))) in
-        (omega (arith, is .next, some), omega (arith, is .next, some, length-inside left, length-drop next log))
-
-    pub goes-on-here : (r .next ≡ next → ⊥) → stops? a ≡ false
-    goes-on-here more = whole-goes-on (modelOf held) left (ne-eqb (recordLength left) 0 (λ e. more (omega (arith, is .next, e))))
-
-    -- no record can be passed: the witness stays
-    pub halted-here : {f : Fed} {after : List ℕ} → r .next ≡ next → IsFed (halted a (r .witness) k) next end buf f after → IsFed whole at 0 before f after
-    halted-here {f} {after} same fed =
-        let none : recordLength left ≡ 0 = omega (arith, is .next, same) in
-        let h = subst (λ (v : Witness). IsFed (halted a v k) next end buf f after) (is .witness ∙ stays held (modelOf held) left none) fed in
-        paused-here (opened false go ∙ ap (λ (n : ℕ). cond (eqb n 0) (halted a held k) (ahead (outcomeLine k a) (recordLength left) (feedFrom (so .fuel) (length before - end - length (outcomeLine k a)) (store held a) (k + 1) (drop (recordLength left) left)))) none) h
+    -- no record can be passed
+    halted-here : {f : Fed} {after : List ℕ} → size ≡ 0 → IsFed (halted a held k) next end buf f after → IsFed whole at 0 before f after
+    halted-here none fed = paused-here (goes-on true (eq-eqb size 0 none)) fed
 
     -- a record is passed, and its line is written
-    pub passed-here : AreBytes log → {buf′ : List ℕ} {end′ : ℕ} → (r .next ≡ next → ⊥) → Put buf end (outcomeLine k a) buf′ end′
-        → Sofar whole log at before buf′ (r .witness) (k + 1) (r .next) end′
-    passed-here bytes {buf′} {end′} more line =
-        let size = recordLength left in
-        let some : (size ≡ 0 → ⊥) = λ e. more (omega (arith, is .next, e)) in
+    passed-here : AreBytes log → {buf′ : List ℕ} {end′ : ℕ} → (size ≡ 0 → ⊥) → Put buf end (outcomeLine k a) buf′ end′
+        → Sofar whole log at before buf′ (store held a) (k + 1) (next + size) end′
+    passed-here bytes {buf′} {end′} some line =
         let inside : size ≤ length left = length-inside left in
         let fuel : so .fuel ≡ suc (so .fuel - 1) = omega (arith, so .enough, inside, ne-zero size some) in
-        let rest : length (drop (r .next) log) ≤ so .fuel - 1 = omega (arith, so .enough, inside, length-drop next log, length-drop (r .next) log, is .next, ne-zero size some) in
-        let room : length before - end - length (outcomeLine k a) ≡ length before - end′ = omega (arith, line .past) in
-        let further : drop size left ≡ drop (r .next) log = drop-drop size next log ∙ ap (λ (n : ℕ). drop n log) (sym (is .next)) in
-        let x = feedFrom (suc (so .fuel - 1)) (length before - end′) (r .witness) (k + 1) (drop (r .next) log) in
+        let rest : length (drop (next + size) log) ≤ so .fuel - 1 = omega (arith, so .enough, inside, length-drop next log, length-drop (next + size) log, ne-zero size some) in
+        let room-left : length before - end - length (outcomeLine k a) ≡ length before - end′ = omega (arith, line .past) in
+        let x = feedFrom (suc (so .fuel - 1)) (length before - end′) (store held a) (k + 1) (drop (next + size) log) in
         let sum : so .passed + (size + x .passed) ≡ so .passed + size + x .passed = omega arith in
         let after-it : feedFrom (so .fuel) (length before - end - length (outcomeLine k a)) (store held a) (k + 1) (drop size left) ≡ x =
-        (λ i. feedFrom (fuel i) (room i) (sym (is .witness) i) (k + 1) (further i))
+        (λ i. feedFrom (fuel i) (room-left i) (store held a) (k + 1) (drop-drop size next log i))
         in
         record {
           text = so .text ++ outcomeLine k a;
           passed = so .passed + size;
           fuel = so .fuel - 1;
-          sound = subst Sound (sym (is .witness)) (reading-sound held (so .sound) left (bytes-left next log bytes));
-          numbered = omega (arith, number-here);
+          sound = reading-sound held (so .sound) left (bytes-left next log bytes);
+          numbered = omega (arith, number);
           enough = rest;
-          reached = omega (arith, is .next, so .reached);
+          reached = omega (arith, so .reached);
           put = Putting.next (so .put) line;
           more =
               so .more
-              ∙ ap (ahead (so .text) (so .passed))
-              (opened false go
-              ∙ ap (λ (b : Bool). cond b (halted a held k) (ahead (outcomeLine k a) size (feedFrom (so .fuel) (length before - end - length (outcomeLine k a)) (store held a) (k + 1) (drop size left)))) (ne-eqb size 0 some)
-              ∙ ap (ahead (outcomeLine k a) size) after-it)
+              ∙ ap (ahead (so .text) (so .passed)) (goes-on false (ne-eqb size 0 some) ∙ ap (ahead (outcomeLine k a) size) after-it)
               ∙ (λ i. record { text = sym (append-assoc (so .text) (outcomeLine k a) (x .text)) i; paused = x .paused; passed = sum i; records = x .records; witness = x .witness });
         }
+
+-- ---- a batch: its lines are put into the buffer all at once, behind it
+
+-- a text that fits can be put
+put-text : (l : List ℕ) (at : ℕ) (t : List ℕ) → at + length t ≤ length l → Put l at t (take at l ++ t ++ drop (at + length t) l) (at + length t)
+put-text l at t fits = record { fits = fits; past = refl; left = refl }
+
+-- n records may be read: there is room for a line of each, and a number for each
+pub record May (log buf : List ℕ) (k end n : ℕ) : Type 0 where
+  pub bytes : AreBytes log
+  pub room : 64 * n ≤ length buf - end
+  pub numbers : n ≤ lastNumber - k
+
+module _ {whole : Feeding} {log : List ℕ} {at : ℕ} {before buf : List ℕ} {held : Witness} {k next end : ℕ} (so : Sofar whole log at before buf held k next end) {n : ℕ} (may : May log buf k end n) where
+  -- the lines of what was told, as they will stand in the buffer
+  record Batched (ts : List (Answer Told)) (v : Witness) (p : ℕ) : Type 0 where
+    will : List ℕ
+    past : ℕ
+    lines : Put buf end (rowLines k (map rowOf ts)) will past
+    short : past ≤ end + 64 * length ts
+    sofar : Sofar whole log at before will v (k + length ts) p past
+
+  numbered-as : {i j p e : ℕ} {l : List ℕ} {v : Witness} → i ≡ j → Sofar whole log at before l v i p e → Sofar whole log at before l v j p e
+  numbered-as {p = p} {e} {l} {v} same s = subst (λ (i : ℕ). Sofar whole log at before l v i p e) same s
+
+  none-batched : Batched [] held next
+  unfolding rowLines
+  none-batched =
+      let same : k ≡ k + 0 = omega arith in
+      record {
+        will = buf;
+        past = end;
+        lines = Putting.none buf end (end-inside so);
+        short = omega arith;
+        sofar = numbered-as same so;
+      }
+
+  one-more : (ts : List (Answer Told)) (v : Witness) (p : ℕ) → length ts < n → eqb (recordLength (drop p log)) 0 ≡ false → Batched ts v p
+      → Batched (ts ++ told (decide (modelOf v) (drop p log)) ∷ []) (store v (decide (modelOf v) (drop p log))) (p + recordLength (drop p log))
+  one-more ts v p few some b =
+      let a = decide (modelOf v) (drop p log) in
+      let j = k + length ts in
+      let number : j < lastNumber = omega (arith, may .numbers, few, so .numbered) in
+      let fits : lineRoom ≤ length (b .will) - b .past = omega (arith, may .room, few, b .short, Putting.kept (b .lines), end-inside so) in
+      let line = passed-line j (modelOf v) (drop p log) (omega (arith, number)) some in
+      let put = put-text (b .will) (b .past) (outcomeLine j a) (omega (arith, fits, line .short)) in
+      let long = length-append ts (told a ∷ []) in
+      let one : j + 1 ≡ k + length (ts ++ told a ∷ []) = omega (arith, long) in
+      record {
+        will = _;
+        past = _;
+        lines = Putting.spelled (Putting.next (b .lines) put) (ap (_++_ (rowLines k (map rowOf ts))) (sym (line .is)) ∙ told-more k ts (told a));
+        short = omega (arith, b .short, line .short, long);
+        sofar = numbered-as one (passed-here (b .sofar) fits number (may .bytes) (eqb-false (recordLength (drop p log)) 0 some) put);
+      }
+
+  abbrev m : Many
+  m = readMany n held log next
+
+  batched : Batched (m .passed) (m .witness) (m .next)
+  batched = while-passed log n Batched one-more held next none-batched
+
+  module _ {rows₀ rows : List ℕ} {r : Batch} (is : IsBatch m rows₀ r rows) where
+    pub few-records : r .records ≤ n
+    few-records = omega (arith, is .records, many-ends log n held next .few)
+
+    -- the rows are the front of a longer list, which stays as long
+    pub rows-long : (others : List ℕ) → length rows₀ ≡ n → length (rows ++ others) ≡ n + length others
+    rows-long others e =
+        let passed = map rowOf (m .passed) in
+        let unused = drop (length (m .passed)) rows₀ in
+        ap (λ (l : List ℕ). length (l ++ others)) (is .rows)
+        ∙ length-append (passed ++ unused) others
+        ∙ omega (arith, length-append passed unused, length-map (m .passed) rowOf, length-drop (length (m .passed)) rows₀, many-ends log n held next .few, e)
+
+    -- the lines of those that were passed are put
+    module _ (others : List ℕ) {buf′ : List ℕ} {end′ : ℕ} (lines : Put buf end (rowLines k (take (r .records) (rows ++ others))) buf′ end′) where
+      abbrev b : Batched (m .passed) (m .witness) (m .next)
+      b = batched
+
+      rows-are : take (r .records) (rows ++ others) ≡ map rowOf (m .passed)
+      rows-are =
+          let unused = drop (length (m .passed)) rows₀ in
+          ap₂ (λ (j : ℕ) (l : List ℕ). take j (l ++ others)) (is .records) (is .rows)
+          ∙ ap (take (length (m .passed))) (append-assoc (map rowOf (m .passed)) unused others)
+          ∙ take-at (map rowOf (m .passed)) (unused ++ others) (length (m .passed)) (length-map (m .passed) rowOf)
+
+      ends-there : b .past ≡ end′
+      ends-there = b .lines .past ∙ ap (λ (l : List ℕ). end + length (rowLines k l)) (sym rows-are) ∙ sym (lines .past)
+
+      -- behind it, all is as before
+      pub batch-here : Sofar whole log at before buf′ (r .witness) (k + r .records) (r .next) end′
+      batch-here =
+          let stands = b .lines .left ∙ sym (Putting.spelled lines (ap (rowLines k) rows-are) .left) in
+          transport (λ i. Sofar whole log at before (stands i) (sym (is .witness) i) (k + sym (is .records) i) (sym (is .next) i) (ends-there i)) (b .sofar)
+
+      -- fewer than may be were passed: the next one cannot be
+      module _ (few : r .records < n) where
+        pub room-left : lineRoom ≤ length buf′ - end′
+        room-left = omega (arith, may .room, few, is .records, b .short, ends-there, Putting.kept lines, end-inside so)
+
+        pub halted-last : {f : Fed} {after : List ℕ} → ((a : Answer Change) → outcomeOf (r .end) ≡ told a → IsFed (halted a (r .witness) (k + r .records)) (r .next) end′ buf′ f after)
+            → IsFed whole at 0 before f after
+        halted-last fed =
+            let here = many-ends log n held next .here (omega (arith, few, is .records)) in
+            let told-there = is .end ∙ here .1 ∙ ap₂ (λ (v : Witness) (p : ℕ). told (decide (modelOf v) (drop p log))) (sym (is .witness)) (sym (is .next)) in
+            halted-here batch-here room-left (omega (arith, few, may .numbers, so .numbered)) (ap (λ (p : ℕ). recordLength (drop p log)) (is .next) ∙ here .0)
+            (fed (decide (modelOf (r .witness)) (drop (r .next) log)) told-there)

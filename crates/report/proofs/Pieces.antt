@@ -5,7 +5,7 @@ use mathlib.Core.Path.{_≡_, refl, sym, ap, ap₂, _∙_, subst}
 use mathlib.Core.List.{List, [], _∷_, _++_, append-assoc, append-nil, flatMap}
 use mathlib.Core.Logic.{_⊎_, ⊎-elim}
 use mathlib.Core.Bool.{Bool, true, false, cond, not, _&&_, _||_}
-use borrow.Author.Tests.{le-ltb, ne-eqb, eqb-false}
+use borrow.Author.Tests.{lt-ltb, le-ltb, ne-eqb, eqb-false}
 use lib.Dec.{ltb, eqb}
 use lib.ListN.{length, drop, length-append, List·getD-append}
 use lib.Seq.{getD-append-add, drop-append-le}
@@ -28,7 +28,7 @@ use Rattle.reader.proofs.Runs.{Sound}
 use Rattle.witness.specs.Calls.{sound?}
 use Rattle.witness.proofs.Guarded.{sound-good}
 use Rattle.report.specs.Feed.{Paused, wants, full, ended, refusedBy, Feeding, pausedAt, ahead, lineRoom, lastNumber, halted, headed, onSound, feedFrom, openCall, feedCall, endText, endFed, endCall}
-use Rattle.report.specs.Pieces.{restOfReport, Piece, onward, fedText, lastPause, endPause, InPieces, FeedGoesOn, CloseEnds}
+use Rattle.report.specs.Pieces.{restOfReport, Piece, onward, fedText, lastPause, endPause, InPieces, OpenWaits, FeedGoesOn, CloseEnds}
 use Rattle.report.proofs.Feeding.{Waits, fed-call}
 use Rattle.report.proofs.Prefix.{header-in-piece}
 
@@ -204,6 +204,10 @@ module _ (n room : ℕ) (w : Witness) (k : ℕ) (s : List ℕ) where
       go true none r e p = clash refl r
       go false true r e p = absurd (ne-full-halted a w k p)
       go false false r e p = omega (arith, eqb-false (recordLength s) 0 e)
+
+pub open-waits : OpenWaits
+unfolding openCall
+open-waits room w log short = rw (lt-ltb (length log) 37 short)
 
 pub feed-goes-on : FeedGoesOn
 unfolding feedCall onSound

@@ -1,22 +1,20 @@
--- What a reading told says what was decided: the line of a record that is passed, and where one cannot be.
-use Prim.Native.Nat.{ℕ, _+_, _≤_}
+-- What a reading told says what was decided, where a record cannot be passed; and what is given back then.
+use Prim.Native.Nat.{ℕ, _+_}
 use native.Mathlib.Omega.{arith}
 use mathlib.Core.Path.{_≡_, refl, sym, ap, ap₂, _∙_, subst}
 use mathlib.Core.List.{List, []}
-use mathlib.Core.Bool.{Bool, true, false, cond}
+use mathlib.Core.Bool.{Bool, cond}
 use borrow.Author.Tests.{eq-eqb, ne-eqb}
-use lib.Dec.{eqb}
 use lib.ListN.{length, take, drop}
 use lib.Seq.{take-at}
 use Rattle.model.specs.Answer.{Answer, refused, answer}
 use Rattle.model.specs.Model.{Change, nothing, addMember, addCheckpoint, addVote}
-use Rattle.model.specs.Report.{stops?, stoppedLine, refusedLine, outcomeLine}
+use Rattle.model.specs.Report.{stoppedLine}
 use Rattle.model.specs.Run.{Told, told}
 use Rattle.state.specs.declared.Witness.{Witness}
 use Rattle.text.specs.Put.{Put}
 use Rattle.text.proofs.Putting.{none}
-use Rattle.report.specs.Feed.{Paused, wants, ended, Feeding, pausedAt, pausedOf, halted, IsFed}
-use Rattle.report.specs.declared.Fed.{Fed}
+use Rattle.report.specs.Feed.{wants, ended, Feeding, pausedAt, pausedOf, halted, IsFed}
 use Rattle.report.specs.declared.Pause.{Pause}
 
 -- a refusal was decided
@@ -28,20 +26,7 @@ told-refused (answer (addMember x)) n e = let z : _≡_ {A = ℕ} 0 1 = cc in ab
 told-refused (answer (addCheckpoint x)) n e = let z : _≡_ {A = ℕ} 0 1 = cc in absurd (omega arith)
 told-refused (answer (addVote x)) n e = let z : _≡_ {A = ℕ} 0 1 = cc in absurd (omega arith)
 
--- ---- the line of a record that is passed
-
-pub line-refused : (k n : ℕ) (a : Answer Change) → refused n ≡ told a → stops? a ≡ false → refusedLine n k ≡ outcomeLine k a
-unfolding outcomeLine
-line-refused k n a e goes =
-    let is = told-refused a n e in
-    ap (λ (b : Bool). cond b (stoppedLine n k) (refusedLine n k)) (sym (ap stops? is ∙ goes)) ∙ ap (outcomeLine k) is
-
-pub line-none : (k : ℕ) (a : Answer Change) {t : Told} → answer t ≡ told a → [] ≡ outcomeLine k a
-unfolding outcomeLine told
-line-none k (refused n) e = let z : _≡_ {A = ℕ} 0 1 = cc in absurd (omega arith)
-line-none k (answer c) e = refl
-
--- ---- where none can be passed
+-- where none can be passed
 
 module _ (w : Witness) (k : ℕ) (a : Answer Change) where
   pub halted-ends : (n : ℕ) → refused n ≡ told a → n ≡ 4 → pausedAt (stoppedLine n k) ended w k ≡ halted a w k

@@ -20,7 +20,8 @@ use Rattle.report.specs.declared.Pause.{Pause}
 use Rattle.report.specs.declared.Pause.the-variants.{Wants, Full, Ended, Refused}
 
 -- Why a call paused: it wants more of the log, since nothing is left or the last record is cut; the buffer has no room for
--- another line, or no record number is left; the report has ended, and nothing more belongs to it; or the call was refused.
+-- another line, or for the last text, or no record number is left; the report has ended, and nothing more belongs to it; or the
+-- call was refused.
 pub data Paused : Type 0 where
   wants : Paused
   full : Paused

@@ -1,2 +1,3 @@
 pub mod Feed
+pub mod Rows
 pub mod Pieces

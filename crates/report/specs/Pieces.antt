@@ -3,7 +3,7 @@ use Prim.Native.Nat.{ℕ, _≤_, _<_}
 use mathlib.Core.Path.{_≡_}
 use mathlib.Core.List.{List, [], _∷_, _++_, flatMap}
 use mathlib.Core.Logic.{_⊎_}
-use mathlib.Core.Bool.{Bool, true, cond}
+use mathlib.Core.Bool.{Bool, true, false, cond}
 use lib.ListN.{length, drop}
 use Rattle.model.specs.Bytes.{AreBytes}
 use Rattle.model.specs.Lists.{any}
@@ -13,7 +13,7 @@ use Rattle.model.specs.Run.{after, outcomes, readings}
 use Rattle.state.specs.State.{Typed, modelOf}
 use Rattle.state.specs.declared.Witness.{Witness}
 use Rattle.witness.specs.Calls.{sound?}
-use Rattle.report.specs.Feed.{Paused, wants, full, ended, refusedBy, Feeding, lineRoom, lastNumber, openCall, feedCall, endText, endCall}
+use Rattle.report.specs.Feed.{Paused, wants, full, ended, refusedBy, Feeding, pausedAt, lineRoom, lastNumber, openCall, feedCall, endText, endCall}
 
 -- the rest of a report: record k and those after it, from the bytes s to the log's end or its stop, and the summary
 unfoldable pub restOfReport : Model → ℕ → List ℕ → List ℕ
@@ -83,10 +83,15 @@ InPieces =
     → lineRoom ≤ first .room → HadRoom room w last first ps
     → reportText room w last first ps ≡ report log
 
+-- A call of `open` on fewer bytes than a header's, where more may come, wants more and has done nothing: so a log may be cut in
+-- its header too.
+abbrev pub OpenWaits : Type 0
+OpenWaits = (room : ℕ) (w : Witness) (log : List ℕ) → length log < 37 → openCall false room w log ≡ pausedAt [] wants w 0
+
 -- A call of `feed` with room for a line, and a number for a record, does not pause for want of room before it has passed a record.
 abbrev pub FeedGoesOn : Type 0
 FeedGoesOn = (room : ℕ) (w : Witness) (k : ℕ) (s : List ℕ) → lineRoom ≤ room → k < lastNumber → feedCall room w k s .paused ≡ full → 0 < feedCall room w k s .passed
 
--- A call of `close` with room for its text ends the report.
+-- A call of `close` with room for its text ends the report. No summary has more than 65,536 bytes (crate summary).
 abbrev pub CloseEnds : Type 0
 CloseEnds = (room : ℕ) (w : Witness) (k left : ℕ) → Typed w → sound? w ≡ true → length (endText (modelOf w) k left) ≤ room → endCall room w k left .paused ≡ ended

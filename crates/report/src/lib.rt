@@ -5,21 +5,25 @@ use state::Outcome;
 use state::Start;
 use state::Witness;
 ghost use mathlib.Core.Path.{_≡_};
-ghost use Prim.Native.Nat.{_+_, _≤_, _<_};
+ghost use Prim.Native.Nat.{ℕ, _+_, _*_, _<_, _≤_};
 ghost use lib.ListN.{length, drop};
-ghost use mathlib.Core.Bool.{false};
+ghost use mathlib.Core.List.{List, []};
 ghost use Rattle.model.specs.Answer.{Answer};
 ghost use Rattle.model.specs.Limits.{rootHeight};
 ghost use Rattle.model.specs.Model.{Change};
-ghost use Rattle.model.specs.Report.{stops?, outcomeLine};
 ghost use Rattle.model.specs.Run.{told};
 ghost use Rattle.model.specs.WellFormed.{WellFormed};
 ghost use Rattle.state.specs.Reading.{outcomeOf};
 ghost use Rattle.state.specs.State.{Typed, modelOf};
 ghost use Rattle.text.specs.Put.{Put};
-ghost use Rattle.report.specs.Feed.{halted, feedFrom, openCall, feedCall, endText, endFed, endCall, IsFed};
+ghost use Rattle.report.specs.Feed.{refusedBy, pausedAt, lineRoom, lastNumber, halted, feedFrom, openCall, feedCall, endText, endFed, endCall, IsFed};
+ghost use Rattle.report.specs.Rows.{rowLines};
 
-// Why a call paused: it wants the next piece; the buffer has no room for a line; the report has ended; or row 40.
+// No record has this number, since the one after it would have none.
+const LAST_NUMBER: u64 = 18_446_744_073_709_551_615;
+
+// Why a call paused: it wants the next piece; the buffer has no room for a line, or for the last text, or no record number is
+// left; the report has ended; or row 40.
 pub enum Pause {
     Wants,
     Full,
@@ -27,7 +31,8 @@ pub enum Pause {
     Refused(Refusal),
 }
 
-// Why the call paused, the offset that it reached, the number of the next record, how many bytes it wrote, and the witness.
+// Why the call paused, the offset that it reached (0 for `close`, which reads nothing), the number of the next record, how many
+// bytes it wrote, and the witness.
 pub struct Fed {
     pub pause: Pause,
     pub next: usize,
@@ -36,21 +41,42 @@ pub struct Fed {
     pub witness: Witness,
 }
 
-// The line of record k, which was passed: one that was refused has one.
-fn outcome_line(buf: &mut [u8], at: usize, k: u64, o: Outcome) -> usize
-    requires { ⌜ at + 64 ≤ length (now buf) ⌝ }
+// How many records may be read at once: each needs one of 1024 rows, a number, and room for a line.
+fn batch(room: usize, numbers: u64) -> usize
+    requires { ⌜ (lineRoom ≤ room) × (0 < numbers) ⌝ }
+    ensures { λ n. ⌜ (0 < n) × (n ≤ 1024) × (64 * n ≤ room) × (n ≤ numbers) ⌝ }
+{
+    let lines = room / 64;
+    if numbers < 1024 {
+        let few = numbers as usize;
+        if few < lines {
+            return few;
+        }
+        return lines;
+    }
+    if lines < 1024 {
+        return lines;
+    }
+    1024
+}
+
+// The lines of record k and those after it, by their rows: each that was refused has one.
+fn refused_lines(buf: &mut [u8], at: usize, k: u64, rows: &[u8]) -> usize
+    requires { ⌜ (at + 64 * length (now rows) ≤ length (now buf)) × (k + length (now rows) ≤ lastNumber) ⌝ }
     ensures { λ r. ⌜
-        ((a : Answer Change)
-        → outcomeOf o ≡ told a
-        → stops? a ≡ false
-        → Put (now (buf .entry)) at (outcomeLine k a) (now (buf .exit)) r)
+        Put (now (buf .entry)) at (rowLines k (now (rows .entry))) (now (buf .exit)) r × (r ≤ at + 64 * length (now (rows .entry)))
         ⌝ }
 {
-    match o {
-        Outcome::Refused(r) => text::lines::refused_line(buf, at, k, r),
-        Outcome::Nothing => at,
-        Outcome::Taken => at,
+    let mut end = at;
+    let mut i: usize = 0;
+    while i < rows.len() {
+        let row = rows[i];
+        if row != 0 {
+            end = text::lines::refused_line(buf, end, k + i as u64, row);
+        }
+        i += 1;
     }
+    end
 }
 
 // Record k, at `next`, cannot be passed: an unknown kind ends the report, a cut record waits for the next piece.
@@ -64,7 +90,7 @@ fn halt(w: Witness, buf: &mut [u8], at: usize, next: usize, k: u64, o: Outcome) 
 {
     match o {
         Outcome::Refused(r) => {
-            if text::refusals::refusal_number(r) == 4 {
+            if refusals::refusal_number(r) == 4 {
                 let written = text::lines::stopped_line(buf, at, r, k);
                 return Fed {
                     pause: Pause::Ended,
@@ -87,7 +113,8 @@ fn halt(w: Witness, buf: &mut [u8], at: usize, next: usize, k: u64, o: Outcome) 
     }
 }
 
-// Record after record from `at` on, into a sound witness, with the lines of those that are refused.
+// Record after record from `at` on, into a sound witness, with the lines of those that are refused. They are read many at a
+// time: a call that took the state and gave it back for each record would copy it each time.
 fn read_on(w: Witness, records: u64, log: &[u8], at: usize, buf: &mut [u8]) -> Fed
     requires { ⌜ Typed w × WellFormed rootHeight (modelOf w) ⌝ }
     ensures { λ r. ⌜
@@ -100,30 +127,31 @@ fn read_on(w: Witness, records: u64, log: &[u8], at: usize, buf: &mut [u8]) -> F
         (now (buf .exit))
         ⌝ }
 {
+    let mut rows = [0u8; 1024];
     let mut held = w;
     let mut k = records;
     let mut next = at;
     let mut end: usize = 0;
-    loop {
-        if (buf.len() - end < 64) | (k == 18446744073709551615) {
-            return Fed {
-                pause: Pause::Full,
-                next,
-                records: k,
-                written: end,
-                witness: held,
-            };
-        }
-        let r = reader::read_at(held, log, next);
-        let outcome = r.outcome;
-        let past = r.next;
+    while (64 <= buf.len() - end) & (k < LAST_NUMBER) {
+        let most = batch(buf.len() - end, LAST_NUMBER - k);
+        let r = reader::read_many(held, log, next, &mut rows[..most]);
+        let outcome = r.end;
+        let passed = r.records;
         held = r.witness;
-        if past == next {
+        next = r.next;
+        end = refused_lines(buf, end, k, &rows[..passed]);
+        k += passed as u64;
+        // fewer than may be: the next one cannot be passed
+        if passed < most {
             return halt(held, buf, end, next, k, outcome);
         }
-        end = outcome_line(buf, end, k, outcome);
-        next = past;
-        k += 1;
+    }
+    Fed {
+        pause: Pause::Full,
+        next,
+        records: k,
+        written: end,
+        witness: held,
     }
 }
 
@@ -174,6 +202,19 @@ pub fn open(w: Witness, log: &[u8], last: bool, buf: &mut [u8]) -> Fed
     }
 }
 
+// Row 40: the call passes over nothing, and writes nothing.
+fn unsound(w: Witness, records: u64, at: usize) -> Fed
+    ensures { λ r. ⌜ ((buf : List ℕ) → IsFed (pausedAt [] (refusedBy 40) w records) at 0 buf r buf) ⌝ }
+{
+    Fed {
+        pause: Pause::Refused(Refusal::UnsoundState),
+        next: at,
+        records,
+        written: 0,
+        witness: w,
+    }
+}
+
 // The records of a piece from `at` on, the first of them record `records`: the lines of those that are refused.
 pub fn feed(w: Witness, records: u64, log: &[u8], at: usize, buf: &mut [u8]) -> Fed
     ensures { λ r. ⌜
@@ -181,13 +222,7 @@ pub fn feed(w: Witness, records: u64, log: &[u8], at: usize, buf: &mut [u8]) -> 
         ⌝ }
 {
     if !sound::is_sound(w) {
-        return Fed {
-            pause: Pause::Refused(Refusal::UnsoundState),
-            next: at,
-            records,
-            written: 0,
-            witness: w,
-        };
+        return unsound(w, records, at);
     }
     read_on(w, records, log, at, buf)
 }
@@ -233,14 +268,8 @@ fn put_end(w: Witness, records: u64, left: usize, buf: &mut [u8]) -> Fed
 pub fn close(w: Witness, records: u64, left: usize, buf: &mut [u8]) -> Fed
     ensures { λ r. ⌜ IsFed (endCall (length (now (buf .entry))) w records left) 0 0 (now (buf .entry)) r (now (buf .exit)) ⌝ }
 {
-    if !sound::is_sound(w) {
-        return Fed {
-            pause: Pause::Refused(Refusal::UnsoundState),
-            next: 0,
-            records,
-            written: 0,
-            witness: w,
-        };
+    if sound::is_sound(w) {
+        return put_end(w, records, left, buf);
     }
-    put_end(w, records, left, buf)
+    unsound(w, records, 0)
 }

@@ -1023,7 +1023,7 @@ const LOG: [u8; 1005] = [
 
 fn say_refused(r: Refusal) {
     io::write_all(STDOUT_FILENO, b"refused ");
-    io::print_decimal(STDOUT_FILENO, text::refusals::refusal_number(r) as u64);
+    io::print_decimal(STDOUT_FILENO, refusals::refusal_number(r) as u64);
     io::write_all(STDOUT_FILENO, b"\n");
 }
 

@@ -12,6 +12,8 @@ use Rattle.model.specs.Answer.{Answer, refused, answer}
 use Rattle.model.specs.Decide.{decide, decideRecord}
 use Rattle.model.specs.Log.{recordSize, recordLength, decode, decodeWhole, cutRecord, unknownKind}
 use Rattle.model.specs.Model.{Model, Change, nothing}
+use Rattle.state.specs.Decision.{Decides}
+use Rattle.state.specs.declared.Decision.{Decision}
 
 -- what is decided, and how far reading goes on
 pub record Decided (m : Model) (s : List ℕ) (a : Answer Change) (n : ℕ) : Type 0 where
@@ -64,3 +66,11 @@ module _ (m : Model) (at : ℕ) (log : List ℕ) where
       whole-record long =
           subst (λ (t : List ℕ). Decided m t (decideRecord m (decodeWhole kind t)) n) from-kind
           (on-size m kind rest size some (le-ltb (length (kind ∷ rest)) n (omega (arith, left))))
+
+-- what the code decided on the bytes is what the model decides on them
+module _ {s : List ℕ} {a : Answer Change} {n : ℕ} {r : Decision} where
+  pub same-answer : {b : Answer Change} → a ≡ b → Decides s a n r → Decides s b n r
+  same-answer e d = record { answer = d .answer ∙ e; passed = d .passed }
+
+  pub by-kind : {m : Model} → Decided m s a n → Decides s a n r → Decides s (decide m s) (recordLength s) r
+  by-kind d r = record { answer = r .answer ∙ sym (d .answer); passed = r .passed ∙ sym (d .passed) }

@@ -15,10 +15,11 @@ use Rattle.model.specs.Limits.{bondLimit, memberLimit, checkpointLimit, voteLim
 use Rattle.model.specs.Model.{Model, Member, Vote, addMember, addCheckpoint, addVote, heightOf, placeOf, voteHeld}
 use Rattle.model.specs.Tree.{ancestor?}
 use Rattle.model.specs.declared.Height.{Height}
+use Rattle.model.specs.declared.Place.{Place}
 use Rattle.model.proofs.Lists.{or-left, or-right}
 use Rattle.tables.specs.Rows.{rows}
 use Rattle.state.specs.State.{height}
-use Rattle.state.specs.Tables.{MembersHeld, NamesHeld, HeightsHeld}
+use Rattle.state.specs.Tables.{MembersHeld, NamesHeld, HeightsHeld, Held}
 
 -- a part, and a field, of the bytes from an offset on
 pub part-at : (at i k : ℕ) (s : List ℕ) → part i k (drop at s) ≡ part (at + i) k s
@@ -27,6 +28,17 @@ part-at at i k s = ap (take k) (drop-drop i at s)
 pub field-at : (at i k : ℕ) (s : List ℕ) → field i k (drop at s) ≡ field (at + i) k s
 unfolding field
 field-at at i k s = ap (λ (t : List ℕ). Rattle.model.specs.Bytes.beOf t) (part-at at i k s)
+
+-- the member that the code read is the record's
+pub member-read : (at : ℕ) (log : List ℕ) {id bond : ℕ} → id ≡ field (at + 1) 2 log → bond ≡ field (at + 3) 8 log
+    → _≡_ {A = Member} (record { id = id; bond = bond }) (record { id = field 1 2 (drop at log); bond = field 3 8 (drop at log) })
+member-read at log p q = λ i. record { id = (p ∙ sym (field-at at 1 2 log)) i; bond = (q ∙ sym (field-at at 3 8 log)) i }
+
+-- row 10's condition, of the counts
+pub members-fixed : {m : Model} {ids names voters : List ℕ} {members checkpoints votes : ℕ} {parents sources targets : List Place} {heights : List Height}
+    → Held m ids members names parents heights checkpoints voters sources targets votes → membersFixed m ≡ (ltb 0 votes || ltb 1 checkpoints)
+unfolding membersFixed
+members-fixed held = ap₂ (λ (v c : ℕ). ltb 0 v || ltb 1 c) (held .votes-held .count) (held .names-held .count)
 
 pub member-rows : (m : Model) (x : Member) {b10 b11 b12 b13 : Bool}
     → membersFixed m ≡ b10

@@ -16,7 +16,7 @@ use Rattle.tables.proofs.Ancestry.{tree-tabulate}
 use Rattle.tables.proofs.Tables.{rows-length, rows-at}
 use Rattle.state.specs.declared.Witness.{Witness}
 use Rattle.state.specs.State.{modelOf, memberIn, checkpointIn, voteIn}
-use Rattle.state.specs.Tables.{MembersHeld, NamesHeld, HeightsHeld, AncestorsHeld, VotesHeld}
+use Rattle.state.specs.Tables.{MembersHeld, NamesHeld, HeightsHeld, AncestorsHeld, VotesHeld, Held}
 
 module _ (w : Witness) where
   pub members-held : w .«member_count» ≤ length (w .ids) → MembersHeld (modelOf w) (w .ids) (w .«member_count»)
@@ -62,3 +62,6 @@ module _ (w : Witness) where
         count = length-tabulate (w .«vote_count») (voteIn w);
         held = λ v. any-tabulate (λ u. sameVote u v) (w .«vote_count») (voteIn w);
       }
+
+  pub all-held : w .«member_count» ≤ length (w .ids) → Held (modelOf w) (w .ids) (w .«member_count») (w .names) (w .parents) (w .heights) (w .«checkpoint_count») (w .voters) (w .sources) (w .targets) (w .«vote_count»)
+  all-held fits = record { members-held = members-held fits; names-held = names-held; heights-held = heights-held; ancestors-held = ancestors-held; votes-held = votes-held }

@@ -4,13 +4,14 @@ use native.Mathlib.Omega.{arith}
 use mathlib.Core.Path.{_≡_, refl, sym, ap, _∙_, subst}
 use mathlib.Core.Logic.{⊎-elim}
 use mathlib.Core.List.{List}
-use lib.ListN.{length, getD}
+use lib.ListN.{length}
 use Rattle.model.specs.Limits.{rootHeight}
 use Rattle.model.specs.Model.{Checkpoint, noCheckpoint, checkpointAt, heightOf, parentOf}
 use Rattle.model.specs.WellFormed.{GoodTree, WellFormed}
 use Rattle.model.proofs.Lists.{tabulate-at, lt-or-ge}
 use Rattle.tables.specs.Places.{Falling}
-use Rattle.state.specs.State.{height, modelOf, checkpointIn}
+use Rattle.state.specs.State.{modelOf, checkpointIn}
+use Rattle.state.specs.Tables.{Low}
 use Rattle.state.specs.declared.Witness.{Witness}
 use Rattle.state.proofs.Kept.{count-members, count-checkpoints, count-votes}
 
@@ -41,7 +42,7 @@ module _ (w : Witness) (good : WellFormed rootHeight (modelOf w)) where
   falling i pos h =
       subst (λ (c : Checkpoint). c .parent < i) (checkpoint-is i h) (good .tree .parent i pos (omega (arith, count-checkpoints w)))
 
-  pub low-heights : (i : ℕ) → i < w .«checkpoint_count» → getD (w .heights) i (height 0) .0 < 4294967295
+  pub low-heights : Low (w .«checkpoint_count») (w .heights)
   low-heights i h =
       let below : i < length (modelOf w .checkpoints) = omega (arith, count-checkpoints w) in
       omega (arith, low rootHeight (modelOf w .checkpoints) (good .tree) (suc i) i (omega arith) below, ap (λ (c : Checkpoint). c .height) (checkpoint-is i h), few-checkpoints)

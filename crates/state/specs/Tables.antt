@@ -30,3 +30,15 @@ pub record AncestorsHeld (m : Model) (parents : List Place) (n : ℕ) : Type 0 w
 pub record VotesHeld (m : Model) (voters : List ℕ) (sources targets : List Place) (n : ℕ) : Type 0 where
   pub count : length (m .votes) ≡ n
   pub held : (v : Vote) → voteHeld (m .votes) v ≡ anyBelow n (λ k. isVote voters sources targets (v .voter) (v .source) (v .target) k)
+
+-- all of them
+pub record Held (m : Model) (ids : List ℕ) (members : ℕ) (names : List ℕ) (parents : List Place) (heights : List Height) (checkpoints : ℕ) (voters : List ℕ) (sources targets : List Place) (votes : ℕ) : Type 0 where
+  pub members-held : MembersHeld m ids members
+  pub names-held : NamesHeld m names checkpoints
+  pub heights-held : HeightsHeld m heights checkpoints
+  pub ancestors-held : AncestorsHeld m parents checkpoints
+  pub votes-held : VotesHeld m voters sources targets votes
+
+-- no height is so large that a child's would not fit
+abbrev pub Low : ℕ → List Height → Type 0
+Low n heights = (i : ℕ) → i < n → getD heights i (height 0) .0 < 4294967295

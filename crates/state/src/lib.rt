@@ -1,25 +1,23 @@
-// The witness's state, and what reads a log into it.
+// The witness's state, what a header begins, and what is decided on a record.
 use model::Height;
 use model::Place;
 use model::Refusal;
 ghost use mathlib.Core.Path.{_≡_};
 ghost use Prim.Native.Nat.{ℕ, _+_, _*_, _≤_, _<_};
-ghost use lib.ListN.{length, take, drop, getD};
+ghost use mathlib.Core.List.{List};
+ghost use lib.ListN.{length, take, drop};
 ghost use lib.Seq.{paste};
 ghost use Rattle.model.specs.Bytes.{field, part, ascii};
 ghost use Rattle.model.specs.Lists.{sameBytes};
-ghost use Rattle.model.specs.Answer.{refused};
 ghost use Rattle.model.specs.Log.{header, recordLength};
-ghost use Rattle.model.specs.Refusals.{refusalNumber};
-ghost use Rattle.model.specs.Limits.{rootHeight};
-ghost use Rattle.model.specs.WellFormed.{WellFormed};
-ghost use Rattle.model.specs.Model.{Model, addMember, addVote};
+ghost use Rattle.model.specs.Model.{Model};
+ghost use Rattle.model.specs.Run.{told};
 ghost use Rattle.model.specs.Decide.{membersFixed, decideMember, decideCheckpoint, decideVote, decidePlaces, decide};
 ghost use Rattle.tables.specs.Places.{Falling};
-ghost use Rattle.state.specs.Tables.{MembersHeld, NamesHeld, HeightsHeld, AncestorsHeld, VotesHeld};
-ghost use Rattle.state.specs.Decision.{verdictOf, descentOf, voteBetween, Within};
-ghost use Rattle.state.specs.State.{Typed, emptyWitness, height, modelOf};
-ghost use Rattle.state.specs.Reading.{IsReading, IsBeginning};
+ghost use Rattle.state.specs.Tables.{MembersHeld, NamesHeld, HeightsHeld, AncestorsHeld, VotesHeld, Held, Low};
+ghost use Rattle.state.specs.Decision.{decisionOf, passedBy, Decides, voteBetween, Within};
+ghost use Rattle.state.specs.State.{emptyWitness};
+ghost use Rattle.state.specs.Reading.{outcomeOf, IsBeginning};
 
 // What is held, in arrays: of each, the first so many entries as its count says; what stands past them means nothing.
 // A name is 32 bytes of `names`, at 32 times its place.
@@ -38,44 +36,75 @@ pub struct Witness {
     pub vote_count: usize,
 }
 
-// What is decided on a member or a vote.
-pub enum Verdict {
-    Refuse(Refusal),
-    Take,
+// What is decided on a record: nothing is there; a row refuses it, and reading passes so many bytes; or what is to be held: a
+// member's id and bond; the place of a checkpoint's parent, and its own height; a vote's member, source and target.
+pub enum Decision {
+    Nothing,
+    Refuse(Refusal, usize),
+    Member(u16, u64),
+    Checkpoint(Place, Height),
+    Vote(u16, Place, Place),
 }
 
-// What is decided on a checkpoint: the place of its parent, and its own height.
-pub enum Descent {
-    Refuse(Refusal),
-    Under(Place, Height),
+// What reading a record comes to.
+pub enum Outcome {
+    Nothing,
+    Taken,
+    Refused(Refusal),
+}
+
+// What the record comes to by the decision.
+pub fn outcome_of(d: Decision) -> Outcome
+    ensures { λ r. ⌜ ((s : List ℕ) → outcomeOf r ≡ told (decisionOf s d)) ⌝ }
+{
+    match d {
+        Decision::Nothing => Outcome::Nothing,
+        Decision::Refuse(r, _) => Outcome::Refused(r),
+        Decision::Member(_, _) => Outcome::Taken,
+        Decision::Checkpoint(_, _) => Outcome::Taken,
+        Decision::Vote(_, _, _) => Outcome::Taken,
+    }
+}
+
+// The bytes that reading passes by the decision.
+pub fn passed_by(d: Decision) -> usize
+    ensures { λ r. ⌜ r ≡ passedBy d ⌝ }
+{
+    match d {
+        Decision::Nothing => 0,
+        Decision::Refuse(_, passed) => passed,
+        Decision::Member(_, _) => 11,
+        Decision::Checkpoint(_, _) => 65,
+        Decision::Vote(_, _, _) => 75,
+    }
 }
 
 // Rows 10 to 13; `fixed` is row 10's condition.
-fn decide_member(ids: &[u16], count: usize, fixed: bool, id: u16, bond: u64) -> Verdict
+fn decide_member(ids: &[u16], count: usize, fixed: bool, id: u16, bond: u64) -> Decision
     requires { ⌜ count ≤ length (now ids) ⌝ }
     ensures { λ r. ⌜
-        ((m : Model)
+        ((m : Model) (s : List ℕ)
         → membersFixed m ≡ fixed
         → MembersHeld m (now (ids .entry)) count
-        → verdictOf (addMember (record { id = id; bond = bond })) r ≡ decideMember m (record { id = id; bond = bond }))
+        → Decides s (decideMember m (record { id = id; bond = bond })) 11 r)
         ⌝ }
 {
     if fixed {
-        return Verdict::Refuse(Refusal::MembersFixed);
+        return Decision::Refuse(Refusal::MembersFixed, 11);
     }
     if bond == 0 {
-        return Verdict::Refuse(Refusal::BondOutOfRange);
+        return Decision::Refuse(Refusal::BondOutOfRange, 11);
     }
     if 1_000_000_000_000 < bond {
-        return Verdict::Refuse(Refusal::BondOutOfRange);
+        return Decision::Refuse(Refusal::BondOutOfRange, 11);
     }
     if tables::find_id(ids, count, id) < count {
-        return Verdict::Refuse(Refusal::IdHeld);
+        return Decision::Refuse(Refusal::IdHeld, 11);
     }
     if 128 <= count {
-        return Verdict::Refuse(Refusal::MembersFull);
+        return Decision::Refuse(Refusal::MembersFull, 11);
     }
-    Verdict::Take
+    Decision::Member(id, bond)
 }
 
 // Rows 20 to 22, on the checkpoint record at `at`. No height is so large that a child's would not fit.
@@ -85,29 +114,32 @@ fn decide_checkpoint(
     count: usize,
     log: &[u8],
     at: usize,
-) -> Descent
+) -> Decision
     requires { ⌜ (32 * count ≤ length (now names)) × (count ≤ 512) × (at + 65 ≤ length (now log)) ⌝ }
-    requires { ⌜ ((i : ℕ) → i < count → getD heights i (height 0) .0 < 4294967295) ⌝ }
+    requires { ⌜ Low count heights ⌝ }
     ensures { λ r. ⌜
         ((m : Model)
         → NamesHeld m (now (names .entry)) count
         → HeightsHeld m heights count
-        → descentOf (part 1 32 (drop at (now (log .entry)))) r
-        ≡ decideCheckpoint m (part 1 32 (drop at (now (log .entry)))) (part 33 32 (drop at (now (log .entry)))))
+        → Decides
+        (drop at (now (log .entry)))
+        (decideCheckpoint m (part 1 32 (drop at (now (log .entry)))) (part 33 32 (drop at (now (log .entry)))))
+        65
+        r)
         ⌝ }
 {
     if tables::find_name(names, count, log, at + 1) < count {
-        return Descent::Refuse(Refusal::NameHeld);
+        return Decision::Refuse(Refusal::NameHeld, 65);
     }
     let p = tables::find_name(names, count, log, at + 33);
     if count <= p {
-        return Descent::Refuse(Refusal::ParentNotHeld);
+        return Decision::Refuse(Refusal::ParentNotHeld, 65);
     }
     if 512 <= count {
-        return Descent::Refuse(Refusal::CheckpointsFull);
+        return Decision::Refuse(Refusal::CheckpointsFull, 65);
     }
     let above = heights[p];
-    Descent::Under(Place(p as u16), Height(above.0 + 1))
+    Decision::Checkpoint(Place(p as u16), Height(above.0 + 1))
 }
 
 // A vote's member and the places of its two names, or the row that refuses it.
@@ -169,45 +201,163 @@ fn decide_places(
     t: Place,
     source_height: Height,
     target_height: Height,
-) -> Verdict
+) -> Decision
     requires { ⌜ (checkpoints ≤ 512) × (s .0 < checkpoints) × (t .0 < checkpoints) × Falling checkpoints parents ⌝ }
     requires { ⌜ (votes ≤ length (now voters)) × (votes ≤ 4096) ⌝ }
     ensures { λ r. ⌜
-        ((m : Model)
+        ((m : Model) (from : List ℕ)
         → HeightsHeld m heights checkpoints
         → AncestorsHeld m parents checkpoints
         → VotesHeld m (now (voters .entry)) sources targets votes
-        → verdictOf (addVote (record { voter = id; source = s .0; target = t .0 })) r
-        ≡ decidePlaces m (record { voter = id; source = s .0; target = t .0 }) («source_height» .0) («target_height» .0))
+        → Decides
+        from
+        (decidePlaces m (record { voter = id; source = s .0; target = t .0 }) («source_height» .0) («target_height» .0))
+        75
+        r)
         ⌝ }
 {
     let i = s.0 as usize;
     let from = heights[i];
     if source_height.0 != from.0 {
-        return Verdict::Refuse(Refusal::WrongHeight);
+        return Decision::Refuse(Refusal::WrongHeight, 75);
     }
     let j = t.0 as usize;
     let to = heights[j];
     if target_height.0 != to.0 {
-        return Verdict::Refuse(Refusal::WrongHeight);
+        return Decision::Refuse(Refusal::WrongHeight, 75);
     }
     if !tables::tree::is_ancestor(parents, checkpoints, s, t) {
-        return Verdict::Refuse(Refusal::NotAncestor);
+        return Decision::Refuse(Refusal::NotAncestor, 75);
     }
     if tables::votes::vote_held(voters, sources, targets, votes, id, s, t) {
-        return Verdict::Refuse(Refusal::VoteHeld);
+        return Decision::Refuse(Refusal::VoteHeld, 75);
     }
     if 4096 <= votes {
-        return Verdict::Refuse(Refusal::VotesFull);
+        return Decision::Refuse(Refusal::VotesFull, 75);
     }
-    Verdict::Take
+    Decision::Vote(id, s, t)
 }
 
-// What reading a record comes to.
-pub enum Outcome {
-    Nothing,
-    Taken,
-    Refused(Refusal),
+// Rows 30 to 36, on the vote record at `at`.
+fn decide_vote<'a>(
+    ids: &'a [u16],
+    members: usize,
+    names: &'a [u8],
+    parents: [Place; 512],
+    heights: [Height; 512],
+    checkpoints: usize,
+    voters: &'a [u16],
+    sources: [Place; 4096],
+    targets: [Place; 4096],
+    votes: usize,
+    log: &[u8],
+    at: usize,
+) -> Decision
+    requires { ⌜ (members ≤ length (now ids)) × (32 * checkpoints ≤ length (now names)) × (checkpoints ≤ 512) × Falling checkpoints parents ⌝ }
+    requires { ⌜ (votes ≤ length (now voters)) × (votes ≤ 4096) × (at + 75 ≤ length (now log)) ⌝ }
+    ensures { λ r. ⌜
+        ((m : Model)
+        → Held m (now (ids .entry)) members (now (names .entry)) parents heights checkpoints (now (voters .entry)) sources targets votes
+        → Decides
+        (drop at (now (log .entry)))
+        (decideVote m
+        (field 1 2 (drop at (now (log .entry))))
+        (part 3 32 (drop at (now (log .entry))))
+        (part 35 32 (drop at (now (log .entry))))
+        (field 67 4 (drop at (now (log .entry))))
+        (field 71 4 (drop at (now (log .entry)))))
+        75
+        r)
+        ⌝ }
+{
+    match find_endpoints(ids, members, names, checkpoints, log, at) {
+        Endpoints::Refuse(r) => Decision::Refuse(r, 75),
+        Endpoints::Between(id, s, t) => {
+            let source_height = Height(wire::be32(log, at + 67));
+            let target_height = Height(wire::be32(log, at + 71));
+            decide_places(
+                parents,
+                heights,
+                checkpoints,
+                voters,
+                sources,
+                targets,
+                votes,
+                id,
+                s,
+                t,
+                source_height,
+                target_height,
+            )
+        }
+    }
+}
+
+// The record at `at`: the kind byte chooses the record's length and its decoder. Row 4 where the kind is unknown, row 5 where the
+// log ends before the record does, then the rows of the kind. The arrays are those of a sound witness.
+pub fn decide_record<'a>(
+    ids: &'a [u16],
+    members: usize,
+    names: &'a [u8],
+    parents: [Place; 512],
+    heights: [Height; 512],
+    checkpoints: usize,
+    voters: &'a [u16],
+    sources: [Place; 4096],
+    targets: [Place; 4096],
+    votes: usize,
+    log: &[u8],
+    at: usize,
+) -> Decision
+    requires { ⌜ (members ≤ length (now ids)) × (32 * checkpoints ≤ length (now names)) × (checkpoints ≤ 512) × Falling checkpoints parents ⌝ }
+    requires { ⌜ (votes ≤ length (now voters)) × (votes ≤ 4096) × Low checkpoints heights ⌝ }
+    ensures { λ r. ⌜
+        ((m : Model)
+        → Held m (now (ids .entry)) members (now (names .entry)) parents heights checkpoints (now (voters .entry)) sources targets votes
+        → Decides (drop at (now (log .entry))) (decide m (drop at (now (log .entry)))) (recordLength (drop at (now (log .entry)))) r)
+        ⌝ }
+{
+    if log.len() <= at {
+        return Decision::Nothing;
+    }
+    let left = log.len() - at;
+    match log[at] {
+        1 => {
+            if left < 11 {
+                return Decision::Refuse(Refusal::CutRecord, 0);
+            }
+            let fixed = (0 < votes) | (1 < checkpoints);
+            let id = wire::be16(log, at + 1);
+            let bond = wire::be64(log, at + 3);
+            decide_member(ids, members, fixed, id, bond)
+        }
+        2 => {
+            if left < 65 {
+                return Decision::Refuse(Refusal::CutRecord, 0);
+            }
+            decide_checkpoint(names, heights, checkpoints, log, at)
+        }
+        3 => {
+            if left < 75 {
+                return Decision::Refuse(Refusal::CutRecord, 0);
+            }
+            decide_vote(
+                ids,
+                members,
+                names,
+                parents,
+                heights,
+                checkpoints,
+                voters,
+                sources,
+                targets,
+                votes,
+                log,
+                at,
+            )
+        }
+        0 | 4..=255 => Decision::Refuse(Refusal::UnknownKind, 0),
+    }
 }
 
 // The outcome, the offset to go on from, and the witness as it is then.
@@ -217,41 +367,8 @@ pub struct Reading {
     pub witness: Witness,
 }
 
-// The member record at `at`.
-fn read_member(mut w: Witness, log: &[u8], at: usize) -> Reading
-    requires { ⌜ Typed w × (w .«member_count» ≤ 128) × (at + 11 ≤ length (now log)) ⌝ }
-    ensures { λ r. ⌜
-        IsReading w
-        (decideMember (modelOf w) (record { id = field 1 2 (drop at (now (log .entry))); bond = field 3 8 (drop at (now (log .entry))) }))
-        (at + 11)
-        r
-        ⌝ }
-{
-    let count = w.member_count;
-    let fixed = (0 < w.vote_count) | (1 < w.checkpoint_count);
-    let id = wire::be16(log, at + 1);
-    let bond = wire::be64(log, at + 3);
-    match decide_member(&w.ids, count, fixed, id, bond) {
-        Verdict::Refuse(r) => Reading {
-            outcome: Outcome::Refused(r),
-            next: at + 11,
-            witness: w,
-        },
-        Verdict::Take => {
-            w.ids[count] = id;
-            w.bonds[count] = bond;
-            w.member_count = count + 1;
-            Reading {
-                outcome: Outcome::Taken,
-                next: at + 11,
-                witness: w,
-            }
-        }
-    }
-}
-
 // The 32 bytes of the log at `from`, into the table at `at`.
-fn copy_name(names: &mut [u8; 16384], at: usize, log: &[u8], from: usize)
+pub fn copy_name(names: &mut [u8; 16384], at: usize, log: &[u8], from: usize)
     requires { ⌜ (length (now names) ≡ 16384) × (at + 32 ≤ 16384) × (from + 32 ≤ length (now log)) ⌝ }
     ensures { λ _. ⌜ now (names .exit) ≡ paste (now (names .entry)) at (drop from (now (log .entry))) 32 ⌝ }
 {
@@ -259,39 +376,6 @@ fn copy_name(names: &mut [u8; 16384], at: usize, log: &[u8], from: usize)
     while i < 32 {
         names[at + i] = log[from + i];
         i += 1;
-    }
-}
-
-// The checkpoint record at `at`.
-fn read_checkpoint(mut w: Witness, log: &[u8], at: usize) -> Reading
-    requires { ⌜ Typed w × (w .«checkpoint_count» ≤ 512) × (at + 65 ≤ length (now log)) ⌝ }
-    requires { ⌜ ((i : ℕ) → i < w .«checkpoint_count» → getD (w .heights) i (height 0) .0 < 4294967295) ⌝ }
-    ensures { λ r. ⌜
-        IsReading w
-        (decideCheckpoint (modelOf w) (part 1 32 (drop at (now (log .entry)))) (part 33 32 (drop at (now (log .entry)))))
-        (at + 65)
-        r
-        ⌝ }
-{
-    let count = w.checkpoint_count;
-    let heights = w.heights;
-    match decide_checkpoint(&w.names, heights, count, log, at) {
-        Descent::Refuse(r) => Reading {
-            outcome: Outcome::Refused(r),
-            next: at + 65,
-            witness: w,
-        },
-        Descent::Under(p, h) => {
-            copy_name(&mut w.names, count * 32, log, at + 1);
-            w.parents[count] = p;
-            w.heights[count] = h;
-            w.checkpoint_count = count + 1;
-            Reading {
-                outcome: Outcome::Taken,
-                next: at + 65,
-                witness: w,
-            }
-        }
     }
 }
 
@@ -362,125 +446,5 @@ pub fn begin(w: Witness, log: &[u8]) -> Beginning
     Beginning {
         outcome: Start::Begun,
         witness: empty(log),
-    }
-}
-
-// The vote record at `at`.
-fn read_vote(mut w: Witness, log: &[u8], at: usize) -> Reading
-    requires { ⌜ Typed w × (w .«member_count» ≤ 128) × (w .«checkpoint_count» ≤ 512) × (w .«vote_count» ≤ 4096) ⌝ }
-    requires { ⌜ (at + 75 ≤ length (now log)) × Falling (w .«checkpoint_count») (w .parents) ⌝ }
-    ensures { λ r. ⌜
-        IsReading w
-        (decideVote (modelOf w)
-        (field 1 2 (drop at (now (log .entry))))
-        (part 3 32 (drop at (now (log .entry))))
-        (part 35 32 (drop at (now (log .entry))))
-        (field 67 4 (drop at (now (log .entry))))
-        (field 71 4 (drop at (now (log .entry)))))
-        (at + 75)
-        r
-        ⌝ }
-{
-    let checkpoints = w.checkpoint_count;
-    let count = w.vote_count;
-    let members = w.member_count;
-    match find_endpoints(&w.ids, members, &w.names, checkpoints, log, at) {
-        Endpoints::Refuse(r) => Reading {
-            outcome: Outcome::Refused(r),
-            next: at + 75,
-            witness: w,
-        },
-        Endpoints::Between(id, s, t) => {
-            let parents = w.parents;
-            let heights = w.heights;
-            let sources = w.sources;
-            let targets = w.targets;
-            let source_height = Height(wire::be32(log, at + 67));
-            let target_height = Height(wire::be32(log, at + 71));
-            match decide_places(
-                parents,
-                heights,
-                checkpoints,
-                &w.voters,
-                sources,
-                targets,
-                count,
-                id,
-                s,
-                t,
-                source_height,
-                target_height,
-            ) {
-                Verdict::Refuse(r) => Reading {
-                    outcome: Outcome::Refused(r),
-                    next: at + 75,
-                    witness: w,
-                },
-                Verdict::Take => {
-                    w.voters[count] = id;
-                    w.sources[count] = s;
-                    w.targets[count] = t;
-                    w.vote_count = count + 1;
-                    Reading {
-                        outcome: Outcome::Taken,
-                        next: at + 75,
-                        witness: w,
-                    }
-                }
-            }
-        }
-    }
-}
-
-// Reading ends at `at`: nothing is passed, and what earlier records built is kept.
-fn stop(w: Witness, at: usize, why: Refusal) -> Reading
-    ensures { λ r. ⌜ IsReading w (refused (refusalNumber why)) at r ⌝ }
-{
-    Reading {
-        outcome: Outcome::Refused(why),
-        next: at,
-        witness: w,
-    }
-}
-
-// The record at `at`, into a sound witness: the kind byte chooses the record's length and its decoder. Row 4 where the kind is
-// unknown, row 5 where the log ends before the record does, then the rows of the kind.
-pub fn read_record(w: Witness, log: &[u8], at: usize) -> Reading
-    requires { ⌜ Typed w × WellFormed rootHeight (modelOf w) ⌝ }
-    ensures { λ r. ⌜
-        IsReading w
-        (decide (modelOf w) (drop at (now (log .entry))))
-        (at + recordLength (drop at (now (log .entry))))
-        r
-        ⌝ }
-{
-    if log.len() <= at {
-        return Reading {
-            outcome: Outcome::Nothing,
-            next: at,
-            witness: w,
-        };
-    }
-    let left = log.len() - at;
-    match log[at] {
-        1 => {
-            if left < 11 {
-                return stop(w, at, Refusal::CutRecord);
-            }
-            read_member(w, log, at)
-        }
-        2 => {
-            if left < 65 {
-                return stop(w, at, Refusal::CutRecord);
-            }
-            read_checkpoint(w, log, at)
-        }
-        3 => {
-            if left < 75 {
-                return stop(w, at, Refusal::CutRecord);
-            }
-            read_vote(w, log, at)
-        }
-        0 | 4..=255 => stop(w, at, Refusal::UnknownKind),
     }
 }

@@ -5,8 +5,8 @@ use report::Fed;
 use report::Pause;
 use state::Witness;
 ghost use mathlib.Core.Path.{_≡_};
-ghost use Prim.Native.Nat.{_+_, _-_, _≤_};
-ghost use lib.ListN.{length};
+ghost use Prim.Native.Nat.{ℕ, _+_, _-_, _≤_, _<_};
+ghost use lib.ListN.{length, getD};
 
 // How reading a log ended: all of it was read, it was stopped, or the file could not be read or the lines not be written.
 pub enum Fate {
@@ -49,6 +49,7 @@ fn refill(fd: i32, input: &mut [u8], have: usize) -> Filled
 fn keep(input: &mut [u8], from: usize, have: usize) -> usize
     requires { ⌜ (from ≤ have) × (have ≤ length (now input)) ⌝ }
     ensures { λ r. ⌜ (r ≡ have - from) × (r ≤ length (now (input .exit))) ⌝ }
+    ensures { λ r. ⌜ ((k : ℕ) → k < r → getD (now (input .exit)) k 0 ≡ getD (now (input .entry)) (from + k) 0) ⌝ }
 {
     let mut i: usize = 0;
     while from + i < have {
@@ -266,10 +267,17 @@ pub fn read_log(fd: i32, lines: bool) -> Log {
     }
 }
 
+// Whether the end was there, and was written out: the buffer has room for any, and what was read is sound.
 fn put_end(log: Log, output: &mut [u8]) -> bool {
     let held = log.witness;
     let fed = report::close(held, log.records, log.left, output);
-    tell(output, fed.written, true, true)
+    let pause = fed.pause;
+    match pause {
+        Pause::Ended => tell(output, fed.written, true, true),
+        Pause::Wants => false,
+        Pause::Full => false,
+        Pause::Refused(_) => false,
+    }
 }
 
 // The end of a log that was read whole, to standard output: the line of a record that stays cut, or the summary.

@@ -16,10 +16,11 @@ pub fn summary(w: Witness, buf: &mut [u8]) -> usize
     ensures { λ r. ⌜ Put (now (buf .entry)) 0 (Report.summary (modelOf w)) (now (buf .exit)) r × (r ≤ 65536) ⌝ }
 {
     let one = checkpoints::checkpoint_lines(w, buf, 0);
-    let two = members::member_lines(w, buf, one);
+    let shown = evidence::conducts(w);
+    let two = members::member_lines(w, shown, buf, one);
     let count = w.member_count;
     let total = finality::voters::total_bond(&w.bonds, count);
-    let named = members::named_bonds(w);
+    let named = members::named_bonds(w, shown);
     let conflict = finality::conflict(w);
     text::lines::total_line(buf, two, total, named, conflict)
 }

@@ -9,7 +9,7 @@ ghost use Rattle.model.specs.Evidence.{broken?, violator?, byId};
 ghost use Rattle.model.specs.Report.{memberText, memberLine};
 ghost use Rattle.model.specs.Support.{sum};
 ghost use Rattle.state.specs.State.{modelOf};
-ghost use Rattle.evidence.specs.Listed.{conductOf};
+ghost use Rattle.evidence.specs.Listed.{conductOf, Shown};
 ghost use Rattle.finality.specs.Ready.{Sound};
 ghost use Rattle.text.specs.Put.{Put};
 
@@ -24,8 +24,9 @@ pub fn member_line(buf: &mut [u8], at: usize, id: u16, bond: u64, shown: Conduct
     }
 }
 
-pub fn member_lines(w: Witness, buf: &mut [u8], at: usize) -> usize
-    requires { ⌜ Sound w × (at + 112 * w .«member_count» ≤ length (now buf)) ⌝ }
+// The line of each member, with what its votes show.
+pub fn member_lines(w: Witness, shown: [Conduct; 128], buf: &mut [u8], at: usize) -> usize
+    requires { ⌜ Sound w × Shown w shown × (at + 112 * w .«member_count» ≤ length (now buf)) ⌝ }
     ensures { λ r. ⌜
         Put (now (buf .entry)) at (flatMap (memberLine (modelOf w)) (byId (modelOf w .members))) (now (buf .exit)) r × (r ≤ at + 112 * w .«member_count»)
         ⌝ }
@@ -36,9 +37,8 @@ pub fn member_lines(w: Witness, buf: &mut [u8], at: usize) -> usize
     let mut k: usize = 0;
     while k < count {
         let p = places[k] as usize;
-        let id = w.ids[p];
-        let shown = evidence::conduct_of(w, id);
-        next = member_line(buf, next, id, w.bonds[p], shown);
+        let one = shown[p];
+        next = member_line(buf, next, w.ids[p], w.bonds[p], one);
         k += 1;
     }
     next
@@ -55,16 +55,16 @@ fn is_broken(shown: Conduct) -> bool
 }
 
 // The bonds of the members who broke a rule.
-pub fn named_bonds(w: Witness) -> u64
-    requires { ⌜ Sound w ⌝ }
+pub fn named_bonds(w: Witness, shown: [Conduct; 128]) -> u64
+    requires { ⌜ Sound w × Shown w shown ⌝ }
     ensures { λ r. ⌜ r ≡ sum (violator? (modelOf w)) (modelOf w .members) ⌝ }
 {
     let count = w.member_count;
     let mut named: u64 = 0;
     let mut i: usize = 0;
     while i < count {
-        let shown = evidence::conduct_of(w, w.ids[i]);
-        if is_broken(shown) {
+        let one = shown[i];
+        if is_broken(one) {
             named += w.bonds[i];
         }
         i += 1;

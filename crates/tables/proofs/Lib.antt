@@ -5,3 +5,7 @@ pub mod Steps
 pub mod Ancestry
 pub mod Sound
 pub mod Pointwise
+pub mod Filled
+pub mod Chains
+pub mod Keys
+pub mod Firsts

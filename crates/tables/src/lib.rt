@@ -9,6 +9,7 @@ ghost use Rattle.model.specs.Lists.{firstIndex, sameBytes};
 ghost use Rattle.tables.specs.Rows.{rows};
 
 pub mod members;
+pub mod numbers;
 pub mod tree;
 pub mod votes;
 

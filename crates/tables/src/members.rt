@@ -1,5 +1,4 @@
 // The held members, two tables: of their ids and of their bonds.
-use crate::find_id;
 use model::MAX_BOND;
 ghost use mathlib.Core.Path.{_≡_};
 ghost use mathlib.Core.Bool.{_&&_};
@@ -7,7 +6,7 @@ ghost use Prim.Native.Nat.{_≤_};
 ghost use lib.Dec.{eqb, ltb, leb};
 ghost use lib.ListN.{length, getD};
 ghost use Rattle.model.specs.Limits.{bondLimit};
-ghost use Rattle.model.specs.Lists.{allBelow, pairBelow};
+ghost use Rattle.model.specs.Lists.{anyBelow, allBelow, pairBelow};
 
 // Whether each of the `count` bonds is at least 1 and at most the limit.
 pub fn bonds_in_range(bonds: &[u64], count: usize) -> bool
@@ -24,6 +23,20 @@ pub fn bonds_in_range(bonds: &[u64], count: usize) -> bool
     ok
 }
 
+// Whether `id` is among the `count` ids. Every id is looked at: many are then compared at once.
+pub fn id_held(ids: &[u16], count: usize, id: u16) -> bool
+    requires { ⌜ count ≤ length (now ids) ⌝ }
+    ensures { λ r. ⌜ r ≡ anyBelow count (λ i. eqb (getD (now (ids .entry)) i 0) id) ⌝ }
+{
+    let mut hit = false;
+    let mut i: usize = 0;
+    while i < count {
+        hit = hit | (ids[i] == id);
+        i += 1;
+    }
+    hit
+}
+
 // Whether some id stands twice among the `count` ids: each is looked for among those before it.
 pub fn ids_twice(ids: &[u16], count: usize) -> bool
     requires { ⌜ count ≤ length (now ids) ⌝ }
@@ -32,7 +45,7 @@ pub fn ids_twice(ids: &[u16], count: usize) -> bool
     let mut hit = false;
     let mut j: usize = 0;
     while j < count {
-        hit = hit | (find_id(ids, j, ids[j]) < j);
+        hit = hit | id_held(ids, j, ids[j]);
         j += 1;
     }
     hit

@@ -1,20 +1,40 @@
 // The held checkpoints, three tables: of their names, of their parents and of their heights.
 use crate::find_name;
+use crate::numbers::numbers_twice;
 use model::Height;
 use model::Place;
 ghost use mathlib.Core.Path.{_≡_};
-ghost use Prim.Native.Nat.{_*_, _≤_, _<_};
-ghost use lib.ListN.{length};
-ghost use Rattle.model.specs.Bytes.{part};
+ghost use Prim.Native.Nat.{ℕ, _*_, _≤_, _<_};
+ghost use lib.ListN.{length, getD};
+ghost use Rattle.model.specs.Bytes.{part, field};
 ghost use Rattle.model.specs.Lists.{allBelow, pairBelow, sameBytes};
 ghost use Rattle.model.specs.Tree.{ancestor?};
 ghost use Rattle.tables.specs.Places.{treeOf, isStep, Falling};
 
-// Whether some name stands twice among the `count` names: each is looked for among those before it.
+// The first 8 bytes of each name, as a number.
+fn first_bytes(names: &[u8], count: usize) -> [u64; 512]
+    requires { ⌜ (32 * count ≤ length (now names)) × (count ≤ 512) ⌝ }
+    ensures { λ r. ⌜ ((k : ℕ) → k < count → getD r k 0 ≡ field (k * 32) 8 (now (names .entry))) ⌝ }
+{
+    let mut numbers = [0u64; 512];
+    let mut k: usize = 0;
+    while k < count {
+        numbers[k] = wire::be64(names, k * 32);
+        k += 1;
+    }
+    numbers
+}
+
+// Whether some name stands twice among the `count` names. Names are hashes, so most often their first bytes tell them
+// apart; where they do not, each name is looked for among those before it.
 pub fn names_twice(names: &[u8], count: usize) -> bool
     requires { ⌜ (32 * count ≤ length (now names)) × (count ≤ 512) ⌝ }
     ensures { λ r. ⌜ r ≡ pairBelow count (λ i j. sameBytes (part (i * 32) 32 (now (names .entry))) (part (j * 32) 32 (now (names .entry)))) ⌝ }
 {
+    let firsts = first_bytes(names, count);
+    if !numbers_twice(&firsts, count) {
+        return false;
+    }
     let mut hit = false;
     let mut j: usize = 0;
     while j < count {

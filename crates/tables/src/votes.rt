@@ -1,9 +1,11 @@
 // The held votes, three tables: of the voters, of the sources and of the targets.
-use crate::find_id;
+use crate::members::id_held;
+use crate::numbers::numbers_twice;
 use crate::tree::is_ancestor;
 use model::Place;
 ghost use mathlib.Core.Path.{_≡_};
-ghost use Prim.Native.Nat.{_≤_};
+ghost use Prim.Native.Nat.{ℕ, _≤_, _<_};
+ghost use lib.Dec.{eqb};
 ghost use lib.ListN.{length, getD};
 ghost use Rattle.model.specs.Lists.{anyBelow, allBelow, pairBelow};
 ghost use Rattle.tables.specs.Places.{placeAt, isVote, isSound, Falling};
@@ -33,7 +35,23 @@ pub fn vote_held(
     hit
 }
 
-// Whether some vote is held twice. The inner loop is written out here: a call would copy the tables at every turn.
+// Each vote as one number. Two votes are the same exactly when their numbers are.
+fn keys(voters: &[u16], sources: [Place; 4096], targets: [Place; 4096], count: usize) -> [u64; 4096]
+    requires { ⌜ (count ≤ length (now voters)) × (count ≤ 4096) ⌝ }
+    ensures { λ r. ⌜ ((i j : ℕ) → i < count → j < count → eqb (getD r i 0) (getD r j 0) ≡ isVote (now (voters .entry)) sources targets (getD (now (voters .entry)) j 0) (placeAt sources j) (placeAt targets j) i) ⌝ }
+{
+    let mut keys = [0u64; 4096];
+    let mut k: usize = 0;
+    while k < count {
+        let s = sources[k];
+        let t = targets[k];
+        keys[k] = voters[k] as u64 * 4294967296 + s.0 as u64 * 65536 + t.0 as u64;
+        k += 1;
+    }
+    keys
+}
+
+// Whether some vote is held twice.
 pub fn votes_twice(
     voters: &[u16],
     sources: [Place; 4096],
@@ -43,22 +61,8 @@ pub fn votes_twice(
     requires { ⌜ (count ≤ length (now voters)) × (count ≤ 4096) ⌝ }
     ensures { λ r. ⌜ r ≡ pairBelow count (λ i j. isVote (now (voters .entry)) sources targets (getD (now (voters .entry)) j 0) (placeAt sources j) (placeAt targets j) i) ⌝ }
 {
-    let mut hit = false;
-    let mut j: usize = 0;
-    while j < count {
-        let id = voters[j];
-        let s = sources[j];
-        let t = targets[j];
-        let mut i: usize = 0;
-        while i < j {
-            let from = sources[i];
-            let to = targets[i];
-            hit = hit | ((voters[i] == id) & (from.0 == s.0) & (to.0 == t.0));
-            i += 1;
-        }
-        j += 1;
-    }
-    hit
+    let keys = keys(voters, sources, targets, count);
+    numbers_twice(&keys, count)
 }
 
 // Whether the vote s -> t of the member `id` is of a held member, between held places, from an ancestor.
@@ -79,9 +83,7 @@ fn vote_sound(
     if checkpoints <= target {
         return false;
     }
-    (find_id(ids, members, id) < members)
-        & (source < checkpoints)
-        & is_ancestor(parents, checkpoints, s, t)
+    id_held(ids, members, id) & (source < checkpoints) & is_ancestor(parents, checkpoints, s, t)
 }
 
 // Whether each of the votes is sound.

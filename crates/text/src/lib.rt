@@ -5,7 +5,6 @@ ghost use Rattle.model.specs.Report.{decimal};
 ghost use Rattle.text.specs.Put.{Put};
 
 pub mod lines;
-pub mod refusals;
 
 // The text, into the buffer from `at` on; answers the offset past it.
 pub fn put(buf: &mut [u8], at: usize, text: &[u8]) -> usize

@@ -1,11 +1,11 @@
 // The report's lines: each is a label and a number, another label and number, and an ending.
 use crate::put;
 use crate::put_number;
-use crate::refusals::refusal_number;
 use model::Height;
 use model::Place;
 use model::Refusal;
 use model::Status;
+use refusals::refusal_number;
 ghost use Prim.Native.Nat.{_+_, _≤_};
 ghost use mathlib.Core.List.{_++_};
 ghost use lib.ListN.{length};
@@ -28,12 +28,12 @@ fn pair<'a>(buf: &mut [u8], at: usize, first: &'a [u8], m: u64, second: &'a [u8]
     put_number(buf, three, n)
 }
 
-// The line of record number `k`, which is refused.
-pub fn refused_line(buf: &mut [u8], at: usize, k: u64, r: Refusal) -> usize
+// The line of record number `k`, which the row of this number refuses.
+pub fn refused_line(buf: &mut [u8], at: usize, k: u64, number: u8) -> usize
     requires { ⌜ at + 64 ≤ length (now buf) ⌝ }
-    ensures { λ n. ⌜ Put (now (buf .entry)) at (refusedLine (refusalNumber r) k) (now (buf .exit)) n × (n ≤ at + 64) ⌝ }
+    ensures { λ n. ⌜ Put (now (buf .entry)) at (refusedLine number k) (now (buf .exit)) n × (n ≤ at + 64) ⌝ }
 {
-    let number = refusal_number(r) as u64;
+    let number = number as u64;
     let next = pair(buf, at, b"refused ", k, b" number ", number);
     put(buf, next, b"\n")
 }

@@ -19,11 +19,13 @@ use Rattle.model.proofs.Lists.{tabulate-at}
 use Rattle.model.proofs.Sound.{well-formed-true}
 use Rattle.state.specs.Reading.{IsReading}
 use Rattle.state.specs.State.{Typed, memberIn, modelOf, store}
-use Rattle.state.specs.declared.Outcome.the-variants.{Refused}
+use Rattle.state.specs.declared.Outcome.the-variants.{Nothing, Refused}
 use Rattle.state.specs.declared.Reading.{Reading}
 use Rattle.state.specs.declared.Witness.{Witness}
 use Rattle.state.proofs.Kept.{count-members}
-use Rattle.witness.specs.Calls.{sound?, onSound, decided, passed}
+use Rattle.reader.specs.Many.{readMany, lastTold, IsBatch}
+use Rattle.reader.specs.declared.Batch.{Batch}
+use Rattle.witness.specs.Calls.{sound?, onSound, decided, passed, manyCall}
 
 -- a state that passes row 40 is well formed
 pub sound-good : (w : Witness) → Typed w → sound? w ≡ true → WellFormed rootHeight (modelOf w)
@@ -70,3 +72,13 @@ module _ (w : Witness) (s : List ℕ) (at : ℕ) where
   sound-reading e i =
       let d = sym (on-sound w (λ m. decide m s) e) in
       record { outcome = i .outcome ∙ ap told d; next = i .next ∙ ap (λ (b : Bool). at + cond b (recordLength s) 0) (sym e); witness = i .witness ∙ ap (store w) d }
+
+-- reading on, by row 40
+module _ (n : ℕ) (w : Witness) (log : List ℕ) (at : ℕ) where
+  pub many-sound : sound? w ≡ true → {before after : List ℕ} {r : Batch} → IsBatch (readMany n w log at) before r after → IsBatch (manyCall n w log at) before r after
+  unfolding manyCall
+  many-sound e is = rw e is
+
+  pub many-unsound : sound? w ≡ false → (rows : List ℕ) → IsBatch (manyCall n w log at) rows (record { end = Refused UnsoundState; last = Nothing; next = at; records = 0; witness = w }) rows
+  unfolding manyCall lastTold
+  many-unsound e rows = rw e (record { end = refl; last = refl; next = refl; records = refl; witness = refl; rows = refl })

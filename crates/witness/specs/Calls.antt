@@ -1,6 +1,6 @@
 -- What the public calls give: row 40 before everything else wherever a state is handed in.
 use Prim.Native.Nat.{ℕ}
-use mathlib.Core.List.{List, _++_}
+use mathlib.Core.List.{List, [], _++_}
 use mathlib.Core.Bool.{Bool, cond, _&&_, not}
 use lib.Dec.{ltb}
 use lib.ListN.{length, drop}
@@ -17,6 +17,7 @@ use Rattle.model.specs.WellFormed.{wellFormed?}
 use Rattle.model.specs.declared.Status.{Status}
 use Rattle.state.specs.State.{modelOf}
 use Rattle.state.specs.declared.Witness.{Witness}
+use Rattle.reader.specs.Many.{Many, readMany}
 
 -- row 40's condition on a state
 unfoldable pub sound? : Witness → Bool
@@ -33,6 +34,10 @@ decided w s = onSound w (λ m. decide m s)
 -- the bytes that reading passes over: none where 40 applies
 unfoldable pub passed : Witness → List ℕ → ℕ
 passed w s = cond (sound? w) (recordLength s) 0
+
+-- reading on: 40 where the state is not sound, and nothing is read
+unfoldable pub manyCall : ℕ → Witness → List ℕ → ℕ → Many
+manyCall n w log at = cond (sound? w) (readMany n w log at) (record { passed = []; end = refused 40; next = at; witness = w })
 
 -- the status of a place: 41 where it isn't held
 unfoldable pub statusCall : Witness → ℕ → Answer Status

@@ -5,19 +5,21 @@ use finality::Backing;
 use model::Place;
 use model::Refusal;
 use model::Status;
+use reader::Batch;
 use state::Beginning;
 use state::Outcome;
 use state::Reading;
 use state::Witness;
 ghost use mathlib.Core.Path.{_≡_};
 ghost use Prim.Native.Nat.{_+_};
-ghost use lib.ListN.{drop};
+ghost use lib.ListN.{length, drop};
 ghost use Rattle.model.specs.Bytes.{part};
 ghost use Rattle.model.specs.Log.{header};
 ghost use Rattle.state.specs.Reading.{IsReading, IsBeginning};
+ghost use Rattle.reader.specs.Many.{IsBatch};
 ghost use Rattle.checker.specs.Check.{checkOf};
 ghost use Rattle.evidence.specs.Listed.{listAnswerOf};
-ghost use Rattle.witness.specs.Calls.{decided, passed, checkCall, statusCall, supportCall, conflictCall, listCall, listBuffer};
+ghost use Rattle.witness.specs.Calls.{decided, passed, manyCall, checkCall, statusCall, supportCall, conflictCall, listCall, listBuffer};
 ghost use Rattle.witness.specs.Answers.{statusOf, supportOf, conflictOf};
 
 // What the calls answer: a value, or the refusal.
@@ -56,6 +58,24 @@ pub fn read(w: Witness, log: &[u8], at: usize) -> Reading
         };
     }
     reader::read_at(w, log, at)
+}
+
+// Reading the records from an offset on, to the log's end or its stop, or as many as there are rows lent: row 40, once, then
+// each record in turn; the number of the row that refused it goes into its row, 0 where it was taken. What cannot be passed, and
+// row 40, is told in `end`.
+pub fn read_many(w: Witness, log: &[u8], at: usize, rows: &mut [u8]) -> Batch
+    ensures { λ r. ⌜ IsBatch (manyCall (length (now (rows .entry))) w (now (log .entry)) at) (now (rows .entry)) r (now (rows .exit)) ⌝ }
+{
+    if !sound::is_sound(w) {
+        return Batch {
+            end: Outcome::Refused(Refusal::UnsoundState),
+            last: Outcome::Nothing,
+            next: at,
+            records: 0,
+            witness: w,
+        };
+    }
+    reader::read_many(w, log, at, rows)
 }
 
 // Checking a list of charges: row 40, then 50 to 57 entry by entry; else the sum of the named bonds.

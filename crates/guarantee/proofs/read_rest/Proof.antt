@@ -1,83 +1,122 @@
--- `guarantee::read_rest` meets its contract. The loop's invariant: the witness is sound, and what was read and what reading on
--- from here comes to is the whole. The measure is how many bytes are left. Assumes nothing.
-use Prim.Native.Nat.{ℕ, suc, _-_, _+_, _≤_}
-use mathlib.Core.Path.{_≡_, refl, sym, ap, subst, _∙_}
+-- `guarantee::read_rest` meets its contract. The loop's invariant: what was read, and what reading on from here comes to, is the
+-- whole. The measure is how many bytes are left. Assumes nothing.
+use Prim.Native.Nat.{ℕ, _-_, _<_, _≤_}
+use mathlib.Core.Path.{_≡_, refl, sym, ap, _∙_, subst}
 use native.Mathlib.Omega.{arith}
 use borrow.Author.Needs.{needs}
-use lib.ListN.{length, drop}
+use borrow.Author.Tests.{ltb-true, ltb-false, lt-ltb}
+use mathlib.Core.Bool.{Bool, _&&_}
+use mathlib.Core.Logic.{⊎-elim}
+use lib.Dec.{ltb}
+use lib.ListN.{length, take, drop, length-append, length-drop}
+use lib.Seq.{length-take-le}
 use Rattle.model.specs.Answer.{answer}
-use Rattle.model.specs.Run.{nothingLeft, readings}
+use Rattle.model.specs.Run.{nothingLeft}
+use Rattle.model.proofs.Lists.{and-left, and-right, lt-or-ge}
 use Rattle.state.specs.Reading.{outcomeOf}
-use Rattle.guarantee.proofs.Onward.{Sound, rest, still-sound, stops-here, goes-on, past-end, limit-met, all-read}
+use Rattle.reader.specs.Many.{readMany, IsBatch}
+use Rattle.reader.proofs.Made.{rows-kept}
+use Rattle.guarantee.proofs.Onward.{rest, Sofar, none-read, limit-met, log-ended}
+use Rattle.guarantee.proofs.Calls.{Call, few-read, each-passed, went-on, some-passed, stopped}
 use Rattle.guarantee.proofs.read_rest.Statement.{statement}
 use Rattle.guarantee.proofs.read_rest.Tie as tie
 
 abbrev Inv-loop : tie.InvT-loop
-Inv-loop log from limit held₀ at₀ last₀ records₀ held at last records =
-    Sound held × (records ≤ limit) × (rest (answer nothingLeft) 0 held₀ limit log from ≡ rest (outcomeOf last) records held (limit - records) log at)
+Inv-loop log from limit held₀ at₀ last₀ records₀ rows₀ held at last records rows = Sofar (rest (answer nothingLeft) 0 held₀ limit log from) limit log (outcomeOf last) records held at × (length rows ≡ 1024)
 
 abbrev μ-loop : tie.MeasureT-loop
-μ-loop log from limit held₀ at₀ last₀ records₀ held at last records = length log - at
+μ-loop log from limit held₀ at₀ last₀ records₀ rows₀ held at last records rows = length log - at
 
--- one of the records that may still be read
-one-read : (r : tie.After-read-at Inv-loop μ-loop)
-    → let l = r .before .before .before .loop in
-    let a = r .before .before .before .before .before .args in
-    rest (answer nothingLeft) 0 (a .w) (a .limit) (a .log .now) (a .from) ≡ rest (outcomeOf (l .last)) (l .records) (l .held) (suc (a .limit - (l .records + 1))) (a .log .now) (l .at)
-one-read r =
-    let l = r .before .before .before .loop in
-    let a = r .before .before .before .before .before .args in
-    let some : a .limit - l .records ≡ suc (a .limit - (l .records + 1)) = omega (arith, r .before .if1 .left) in
-    l .inv .2 ∙ ap (λ (n : ℕ). rest (outcomeOf (l .last)) (l .records) (l .held) n (a .log .now) (l .at)) some
+-- the loop's test
+inside : (c : tie.After-batch Inv-loop μ-loop) → let l = c .before .before in l .loop .at < length (l .before .before .args .log .now)
+inside c = ltb-true _ _ (and-left _ _ (c .before .loop-test .taken))
+
+below : (c : tie.After-batch Inv-loop μ-loop) → let l = c .before .before in l .loop .records < l .before .before .args .limit
+below c = let l = c .before .before in ltb-true _ _ (and-right (ltb (l .loop .at) (length (l .before .before .args .log .now))) _ (c .before .loop-test .taken))
+
+-- the call, after what was read before it
+call : (c : tie.After-read-many Inv-loop μ-loop)
+    → let l = c .before .before .before .before in
+    let a = l .before .before .args in
+    let n = c .before .before .batch .result in
+    Call (rest (answer nothingLeft) 0 (a .w) (a .limit) (a .log .now) (a .from)) (a .limit) (a .log .now) (outcomeOf (l .loop .last)) (l .loop .records) (l .loop .held) (l .loop .at) n (take n (l .loop .rows)) (c .read-many .result) (c .read-many .last .1 .1 .1 .0)
+call c =
+    let b = c .before .before in
+    let l = b .before .before in
+    let n = b .batch .result in
+    record {
+      so = l .loop .inv .0;
+      bytes = λ i h. l .before .shared-slice-known .given i .fits;
+      few = omega (arith, b .batch .ensures .0, below b);
+      is = subst (λ (j : ℕ). IsBatch (readMany j (l .loop .held) (l .before .before .args .log .now) (l .loop .at)) (take n (l .loop .rows)) (c .read-many .result) (c .read-many .last .1 .1 .1 .0)) (length-take-le n (l .loop .rows) (omega (arith, b .batch .ensures .1, l .loop .inv .1))) (c .read-many .ensures);
+    }
 
 loop-holds : tie.Need-loop-holds Inv-loop μ-loop
 loop-holds c =
     let a = c .before .args in
-    let all : a .limit ≡ a .limit - 0 = omega arith in
-    (c .before .pre, omega arith, ap (λ (n : ℕ). rest (answer nothingLeft) 0 (a .w) n (a .log .now) (a .from)) all)
+    (none-read (a .limit) (a .log .now) (answer nothingLeft) (a .w) (a .from) (record { typed = c .before .pre .0; good = c .before .pre .1 }), refl)
+
+sub-batch : tie.Need-sub-batch Inv-loop μ-loop
+sub-batch c = search needs
+
+batch-requires : tie.Need-batch-requires Inv-loop μ-loop
+batch-requires c κs = search needs
+
+array-borrow-prefix-rows : tie.Need-array-borrow-prefix-rows Inv-loop μ-loop
+array-borrow-prefix-rows c = search needs
+
+slice-aggregate-read-many : tie.Need-slice-aggregate-read-many Inv-loop μ-loop
+slice-aggregate-read-many c = sym (length-take-le _ _ (omega (arith, c .before .batch .ensures .1, c .before .before .before .loop .inv .1)))
+
+read-many-requires : tie.Need-read-many-requires Inv-loop μ-loop
+read-many-requires c κs = let sound = c .before .before .before .loop .inv .0 .sound in (sound .typed, sound .good)
+
+add-records : tie.Need-add-records Inv-loop μ-loop
+add-records c = let r = c .before .before in omega (arith, few-read (call r), call r .few, r .before .before .before .before .before .before .fits .limit)
+
+-- it ended before its rows did
+short : (c : tie.Then1 Inv-loop μ-loop) → let r = c .before .before .before .before in r .read-many .result .records < r .before .before .batch .result
+short c = ltb-true _ _ (and-left _ _ (c .if1 .taken))
+
+add-t20 : tie.Need-add-t20 Inv-loop μ-loop
+add-t20 c = let r = c .before .before .before .before in omega (arith, short c, call r .few, r .before .before .before .before .before .before .fits .limit)
 
 returns : tie.Need-returns Inv-loop μ-loop
 returns c =
-    let l = c .before .before .loop in
-    let a = c .before .before .before .before .args in
-    let none : a .limit - l .records ≡ 0 = omega (arith, c .if1 .taken) in
-    all-read (outcomeOf (l .last)) (l .records) (l .held) _ (limit-met (a .limit - l .records) (drop (l .at) (a .log .now)) none) ∙ sym (l .inv .2)
+    let r = c .before .before .before .before in
+    stopped (call r) (short c) (ltb-true _ _ (and-right (ltb (r .read-many .result .records) (r .before .before .batch .result)) _ (c .if1 .taken)))
 
-read-at-requires : tie.Need-read-at-requires Inv-loop μ-loop
-read-at-requires c κs = c .before .before .loop .inv .0
-
-add-records : tie.Need-add-records Inv-loop μ-loop
-add-records c = search needs
-
-returns-2 : tie.Need-returns-2 Inv-loop μ-loop
-returns-2 c =
-    let r = c .before .before in
-    let l = r .before .before .before .loop in
-    let a = r .before .before .before .before .before .args in
-    sym
-    (one-read r
-    ∙ stops-here (l .held) (l .inv .0) (a .log .now) (l .at) (outcomeOf (l .last)) (l .records) (a .limit - (l .records + 1)) (r .before .before .loop-test .taken) (r .read-at .ensures) (c .if2 .taken))
+-- a batch that did not end the reading passed some
+moved : (c : tie.Else1 Inv-loop μ-loop) → 0 < c .before .before .before .before .read-many .result .records
+moved c =
+    let r = c .before .before .before .before in
+    let b = r .before .before in
+    went-on (call r) (c .if1 .left) (inside b) (b .batch .ensures .2 (omega (arith, below b)))
 
 loop-less : tie.Need-loop-less Inv-loop μ-loop
-loop-less c = search needs
+loop-less c =
+    let r = c .before .before .before .before in
+    omega (arith, each-passed (call r), moved c, inside (r .before .before))
 
 loop-again : tie.Need-loop-again Inv-loop μ-loop
 loop-again c =
-    let r = c .before .before in
-    let l = r .before .before .before .loop in
-    let start = r .before .before .before .before in
-    let a = start .before .args in (
-      subst Sound (sym (r .read-at .ensures .witness)) (still-sound (l .held) (l .inv .0) (a .log .now) (l .at) (λ i h. start .shared-slice-known .given i .fits)),
-      omega (arith, r .before .if1 .left),
-      one-read r
-          ∙ goes-on (l .held) (l .inv .0) (a .log .now) (l .at) (outcomeOf (l .last)) (l .records) (a .limit - (l .records + 1)) (r .before .before .loop-test .taken) (r .read-at .ensures) (c .if2 .left),
+    let r = c .before .before .before .before in
+    let l = r .before .before .before .before in
+    let n = r .before .before .batch .result in
+    let fits : n ≤ length (l .loop .rows) = omega (arith, r .before .before .batch .ensures .1, l .loop .inv .1) in (
+      some-passed (call r) (moved c),
+      length-append (r .read-many .last .1 .1 .1 .0) (drop n (l .loop .rows))
+          ∙ omega (arith, rows-kept n (l .loop .held) (l .before .before .args .log .now) (l .loop .at) (length-take-le n (l .loop .rows) fits) (call r .is), length-drop n (l .loop .rows), fits, l .loop .inv .1),
     )
 
-returns-3 : tie.Need-returns-3 Inv-loop μ-loop
-returns-3 c =
+returns-2 : tie.Need-returns-2 Inv-loop μ-loop
+returns-2 c =
     let l = c .before .loop in
     let a = c .before .before .before .args in
-    all-read (outcomeOf (l .last)) (l .records) (l .held) _ (past-end (a .limit - l .records) (a .log .now) (l .at) (c .loop-test .left)) ∙ sym (l .inv .2)
+    ⊎-elim
+    (λ h. limit-met (l .inv .0) (ltb-false (l .records) (a .limit) (sym (ap (λ (b : Bool). b && ltb (l .records) (a .limit)) (lt-ltb (l .at) (length (a .log .now)) h)) ∙ c .loop-test .left)))
+    (λ h. log-ended (l .inv .0) h)
+    (lt-or-ge (l .at) (length (a .log .now)))
 
 pub read-rest-spec : {M : Type 1} → statement M
 read-rest-spec =
@@ -86,10 +125,14 @@ read-rest-spec =
     Inv-loop
     μ-loop
     loop-holds
-    returns
-    read-at-requires
+    sub-batch
+    batch-requires
+    array-borrow-prefix-rows
+    slice-aggregate-read-many
+    read-many-requires
     add-records
-    returns-2
+    add-t20
+    returns
     loop-less
     loop-again
-    returns-3)
+    returns-2)

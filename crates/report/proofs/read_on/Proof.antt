@@ -1,81 +1,148 @@
 -- `report::read_on` meets its contract. The loop's invariant: the text so far, and what reading on from here comes to, is the
--- whole (`Sofar`). The measure is how many bytes are left. Assumes nothing.
-use Prim.Native.Nat.{_+_, _-_}
+-- whole (`Sofar`); and there are 1024 rows. The measure is how many record numbers are left. Assumes nothing.
+use Prim.Native.Nat.{ℕ, _+_, _-_, _≤_}
 use native.Mathlib.Omega.{arith}
-use borrow.Author.Needs.{needs}
-use lib.ListN.{length, drop}
+use mathlib.Core.Path.{_≡_, refl, sym, ap, _∙_}
+use mathlib.Core.List.{List}
+use lib.ListN.{length, take, drop, length-append, take-append-drop}
+use lib.Seq.{length-take-le}
 use Rattle.text.proofs.Putting.{kept}
-use Rattle.report.specs.Feed.{feedFrom}
-use Rattle.report.proofs.Onward.{Sofar, none-yet, end-inside, room-here, number-here, inside-here, goes-on-here, full-here, halted-here, passed-here}
+use Rattle.report.specs.Feed.{feedFrom, lastNumber}
+use Rattle.report.proofs.Onward.{Sofar, none-yet, end-inside, room-and-number, full-here, May, few-records, rows-long, batch-here, room-left, halted-last}
 use Rattle.report.proofs.read_on.Statement.{statement}
 use Rattle.report.proofs.read_on.Tie as tie
 
 abbrev Inv-loop : tie.InvT-loop
-Inv-loop records log at buf₀ held₀ k₀ next₀ end₀ buf held k next end =
-    Sofar (feedFrom (length (drop at log) + 1) (length buf₀) held₀ records (drop at log)) log at buf₀ buf held k next end
+Inv-loop records log at buf₀ rows₀ held₀ k₀ next₀ end₀ buf rows held k next end =
+    (length rows ≡ 1024) × Sofar (feedFrom (length (drop at log) + 1) (length buf₀) held₀ records (drop at log)) log at buf₀ buf held k next end
 
 abbrev μ-loop : tie.MeasureT-loop
-μ-loop records log at buf₀ held₀ k₀ next₀ end₀ buf held k next end = length log - next
+μ-loop records log at buf₀ rows₀ held₀ k₀ next₀ end₀ buf rows held k next end = lastNumber - k
 
 loop-holds : tie.Need-loop-holds Inv-loop μ-loop
 loop-holds c =
     let start = c .before .before in
     let a = start .args in
-    none-yet (a .w) (a .records) (a .log .now) (a .at) (a .buf .now) (record { typed = start .pre .0; good = start .pre .1 }) (omega arith)
+    (refl, none-yet (a .w) (a .records) (a .log .now) (a .at) (a .buf .now) (record { typed = start .pre .0; good = start .pre .1 }) (omega arith))
 
-sub-if1 : tie.Need-sub-if1 Inv-loop μ-loop
-sub-if1 c = end-inside (c .loop .inv)
+sub-loop : tie.Need-sub-loop Inv-loop μ-loop
+sub-loop c = end-inside (c .loop .inv .1)
 
-same-length : tie.Need-same-length Inv-loop μ-loop
-same-length c = kept (c .before .loop .inv .put)
+sub-batch : tie.Need-sub-batch Inv-loop μ-loop
+sub-batch c = end-inside (c .before .loop .inv .1)
 
-returns : tie.Need-returns Inv-loop μ-loop
-returns c = full-here (c .before .loop .inv) (c .if1 .taken)
+sub-batch-2 : tie.Need-sub-batch-2 Inv-loop μ-loop
+sub-batch-2 c = c .before .loop .inv .1 .numbered
 
-read-at-requires : tie.Need-read-at-requires Inv-loop μ-loop
-read-at-requires c κs = let sound = c .before .loop .inv .sound in (sound .typed, sound .good)
+batch-requires : tie.Need-batch-requires Inv-loop μ-loop
+batch-requires c κs = let l = c .before .loop in let test = room-and-number (length (l .buf) - l .end) (l .k) (c .loop-test .taken) in (test .0, omega (arith, test .1))
 
-halt-requires : tie.Need-halt-requires Inv-loop μ-loop
-halt-requires c κs =
+array-borrow-prefix-rows : tie.Need-array-borrow-prefix-rows Inv-loop μ-loop
+array-borrow-prefix-rows c = omega (arith, c .batch .ensures .1, c .before .before .loop .inv .0)
+
+-- ---- the batch that was read
+
+abbrev test : tie.After-rows Inv-loop μ-loop → tie.In-loop Inv-loop μ-loop
+test c = c .before .before
+
+-- the rows lent
+abbrev lent : tie.After-rows Inv-loop μ-loop → List ℕ
+lent c = take (c .before .batch .result) (test c .before .loop .rows)
+
+lent-long : (c : tie.After-rows Inv-loop μ-loop) → length (lent c) ≡ c .before .batch .result
+lent-long c = length-take-le (c .before .batch .result) (test c .before .loop .rows) (omega (arith, c .before .batch .ensures .1, test c .before .loop .inv .0))
+
+-- each record that may be read has room and a number
+may : (c : tie.After-rows Inv-loop μ-loop)
+    → let l = test c .before .loop in
+    May (test c .before .before .before .before .args .log .now) (l .buf) (l .k) (l .end) (length (lent c))
+may c =
+    record {
+      bytes = λ i h. test c .before .before .before .shared-slice-known .given i .fits;
+      room = omega (arith, lent-long c, c .before .batch .ensures .2);
+      numbers = omega (arith, lent-long c, c .before .batch .ensures .3);
+    }
+
+slice-aggregate-read-many : tie.Need-slice-aggregate-read-many Inv-loop μ-loop
+slice-aggregate-read-many c = sym (lent-long c)
+
+read-many-requires : tie.Need-read-many-requires Inv-loop μ-loop
+read-many-requires c κs = let sound = test c .before .loop .inv .1 .sound in (sound .typed, sound .good)
+
+few : (c : tie.After-read-many Inv-loop μ-loop) → c .read-many .result .records ≤ c .before .before .batch .result
+few c = omega (arith, few-records (test (c .before) .before .loop .inv .1) (may (c .before)) (c .read-many .ensures), lent-long (c .before))
+
+-- the rows that were not lent
+abbrev others : tie.After-rows Inv-loop μ-loop → List ℕ
+others c = drop (c .before .batch .result) (test c .before .loop .rows)
+
+others-long : (c : tie.After-rows Inv-loop μ-loop) → length (lent c) + length (others c) ≡ 1024
+others-long c = sym (length-append (lent c) (others c)) ∙ ap length (take-append-drop (c .before .batch .result) (test c .before .loop .rows)) ∙ test c .before .loop .inv .0
+
+array-share-prefix-rows : tie.Need-array-share-prefix-rows Inv-loop μ-loop
+array-share-prefix-rows c =
     let r = c .before .before .before in
-    room-here (r .before .before .loop .inv) (r .before .if1 .left) (r .read-at .ensures)
+    let q = r .before in
+    omega (arith, few r, lent-long q, rows-long (test q .before .loop .inv .1) (may q) (r .read-many .ensures) (others q) refl)
 
-returns-2 : tie.Need-returns-2 Inv-loop μ-loop
-returns-2 c =
-    let h = c .before .before in
-    let then = h .before .before in
-    let r = then .before .before in
-    halted-here (r .before .before .loop .inv) (r .before .if1 .left) (r .read-at .ensures) (then .if2 .taken) (h .halt .ensures _ (r .read-at .ensures .outcome))
+slice-aggregate-refused-lines : tie.Need-slice-aggregate-refused-lines Inv-loop μ-loop
+slice-aggregate-refused-lines c = sym (length-take-le _ _ (array-share-prefix-rows (c .before)))
 
-same-length-2 : tie.Need-same-length-2 Inv-loop μ-loop
-same-length-2 c = kept (returns-2 c .text)
-
-outcome-line-requires : tie.Need-outcome-line-requires Inv-loop μ-loop
-outcome-line-requires c κs =
-    let r = c .before .before .before in
-    room-here (r .before .before .loop .inv) (r .before .if1 .left) (r .read-at .ensures)
+refused-lines-requires : tie.Need-refused-lines-requires Inv-loop μ-loop
+refused-lines-requires c κs =
+    let r = c .before .before .before .before in
+    let q = r .before in
+    let l = test q .before .loop in
+    let count = slice-aggregate-refused-lines c in
+    (omega (arith, count, few r, lent-long q, may q .room, end-inside (l .inv .1)), omega (arith, count, few r, lent-long q, may q .numbers, l .inv .1 .numbered))
 
 add-k : tie.Need-add-k Inv-loop μ-loop
 add-k c =
-    let r = c .before .before .before .before .before .before in
-    omega (arith, number-here (r .before .before .loop .inv) (r .before .if1 .left) (r .read-at .ensures))
+    let r = c .before .before .before .before .before .before .before in
+    let q = r .before in
+    omega (arith, few r, lent-long q, may q .numbers, test q .before .loop .inv .1 .numbered)
+
+halt-requires : tie.Need-halt-requires Inv-loop μ-loop
+halt-requires c κs =
+    let then = c .before in
+    let l = then .before .before .before in
+    let r = l .before .before .before .before .before in
+    let q = r .before in
+    let so = test q .before .loop .inv .1 in
+    let room = room-left so (may q) (r .read-many .ensures) (others q) (l .refused-lines .ensures .0) (omega (arith, then .if1 .taken, lent-long q)) in
+    omega (arith, room, end-inside (batch-here so (may q) (r .read-many .ensures) (others q) (l .refused-lines .ensures .0)))
+
+returns : tie.Need-returns Inv-loop μ-loop
+returns c =
+    let h = c .before .before in
+    let then = h .before .before in
+    let l = then .before .before .before in
+    let r = l .before .before .before .before .before in
+    let q = r .before in
+    halted-last (test q .before .loop .inv .1) (may q) (r .read-many .ensures) (others q) (l .refused-lines .ensures .0) (omega (arith, then .if1 .taken, lent-long q)) (h .halt .ensures)
+
+same-length : tie.Need-same-length Inv-loop μ-loop
+same-length c = kept (returns c .text)
 
 loop-less : tie.Need-loop-less Inv-loop μ-loop
 loop-less c =
-    let l = c .before .before in
-    let r = l .before .before .before .before in
-    let inside = inside-here (r .before .before .loop .inv) (r .before .if1 .left) (r .read-at .ensures) (l .before .before .if2 .left) in
-    omega (arith, inside .0, inside .1)
+    let r = c .before .before .before .before .before .before .before .before in
+    let q = r .before in
+    omega (arith, c .if1 .left, few r, q .before .batch .ensures .0, q .before .batch .ensures .3)
 
 loop-again : tie.Need-loop-again Inv-loop μ-loop
 loop-again c =
-    let l = c .before .before in
-    let other = l .before .before in
-    let r = other .before .before in
-    let so = r .before .before .loop .inv in
-    let bytes = r .before .before .before .before in
-    passed-here so (r .before .if1 .left) (r .read-at .ensures) (λ i h. bytes .shared-slice-known .given i .fits) (other .if2 .left)
-    (l .outcome-line .ensures _ (r .read-at .ensures .outcome) (goes-on-here so (r .before .if1 .left) (r .read-at .ensures) (other .if2 .left)))
+    let l = c .before .before .before in
+    let r = l .before .before .before .before .before in
+    let q = r .before in
+    let so = test q .before .loop .inv .1 in
+    (rows-long so (may q) (r .read-many .ensures) (others q) refl ∙ others-long q, batch-here so (may q) (r .read-many .ensures) (others q) (l .refused-lines .ensures .0))
+
+same-length-2 : tie.Need-same-length-2 Inv-loop μ-loop
+same-length-2 c = kept (c .before .loop .inv .1 .put)
+
+returns-2 : tie.Need-returns-2 Inv-loop μ-loop
+returns-2 c = full-here (c .before .loop .inv .1) (c .loop-test .left)
 
 pub read-on-spec : {M : Type 1} → statement M
 read-on-spec =
@@ -84,14 +151,21 @@ read-on-spec =
     Inv-loop
     μ-loop
     loop-holds
-    sub-if1
+    sub-loop
+    sub-batch
+    sub-batch-2
+    batch-requires
+    array-borrow-prefix-rows
+    slice-aggregate-read-many
+    read-many-requires
+    array-share-prefix-rows
+    slice-aggregate-refused-lines
+    refused-lines-requires
+    add-k
+    halt-requires
     same-length
     returns
-    read-at-requires
-    halt-requires
-    same-length-2
-    returns-2
-    outcome-line-requires
-    add-k
     loop-less
-    loop-again)
+    loop-again
+    same-length-2
+    returns-2)

@@ -23,7 +23,7 @@ unfolding row
 returns c =
     λ m names heights.
     let a = c .before .before .before .before .args in
-    sym (checkpoint-rows m _ (part 33 32 (drop (a .at) (a .log .now))) (held-name (a .at) 1 (a .log .now) names (c .before .find-name .ensures) ∙ lt-ltb _ _ (c .if1 .taken)) refl refl)
+    record { answer = sym (checkpoint-rows m _ (part 33 32 (drop (a .at) (a .log .now))) (held-name (a .at) 1 (a .log .now) names (c .before .find-name .ensures) ∙ lt-ltb _ _ (c .if1 .taken)) refl refl); passed = refl }
 
 add-find-name-2 : tie.Need-add-find-name-2
 add-find-name-2 c = search needs
@@ -36,11 +36,14 @@ unfolding row
 returns-2 c =
     λ m names heights.
     let a = c .before .before .before .before .before .before .args in
-    sym
-    (checkpoint-rows m _ (part 33 32 (drop (a .at) (a .log .now)))
-    (held-name (a .at) 1 (a .log .now) names (c .before .before .before .find-name .ensures) ∙ le-ltb _ _ (c .before .before .if1 .left))
-    (held-name (a .at) 33 (a .log .now) names (c .before .find-name2 .ensures) ∙ le-ltb _ _ (c .if2 .taken))
-    refl)
+    record {
+      answer = sym
+          (checkpoint-rows m _ (part 33 32 (drop (a .at) (a .log .now)))
+          (held-name (a .at) 1 (a .log .now) names (c .before .before .before .find-name .ensures) ∙ le-ltb _ _ (c .before .before .if1 .left))
+          (held-name (a .at) 33 (a .log .now) names (c .before .find-name2 .ensures) ∙ le-ltb _ _ (c .if2 .taken))
+          refl);
+      passed = refl;
+    }
 
 returns-3 : tie.Need-returns-3
 unfolding row
@@ -48,11 +51,14 @@ returns-3 c =
     λ m names heights.
     let a = c .before .before .before .before .before .before .before .args in
     let b = c .before .before in
-    sym
-    (checkpoint-rows m _ (part 33 32 (drop (a .at) (a .log .now)))
-    (held-name (a .at) 1 (a .log .now) names (b .before .before .find-name .ensures) ∙ le-ltb _ _ (b .before .if1 .left))
-    (held-name (a .at) 33 (a .log .now) names (b .find-name2 .ensures) ∙ lt-ltb _ _ (c .before .if2 .left))
-    (ap (leb checkpointLimit) (names .count) ∙ le-leb _ _ (c .if3 .taken)))
+    record {
+      answer = sym
+          (checkpoint-rows m _ (part 33 32 (drop (a .at) (a .log .now)))
+          (held-name (a .at) 1 (a .log .now) names (b .before .before .find-name .ensures) ∙ le-ltb _ _ (b .before .if1 .left))
+          (held-name (a .at) 33 (a .log .now) names (b .find-name2 .ensures) ∙ lt-ltb _ _ (c .before .if2 .left))
+          (ap (leb checkpointLimit) (names .count) ∙ le-leb _ _ (c .if3 .taken)));
+      passed = refl;
+    }
 
 mul-above : tie.Need-mul-above
 mul-above c = search needs
@@ -74,12 +80,15 @@ returns-4 c =
     λ m names heights.
     let a = c .before .before .before .before .before .before .before .before .before .args in
     let b = c .before .before .before in
-    checkpoint-taken m _ _
-    (held-name (a .at) 1 (a .log .now) names (b .before .before .before .find-name .ensures) ∙ le-ltb _ _ (b .before .before .if1 .left))
-    (held-name (a .at) 33 (a .log .now) names (b .before .find-name2 .ensures) ∙ lt-ltb _ _ (b .if2 .left))
-    (ap (leb checkpointLimit) (names .count) ∙ lt-leb _ _ (c .before .before .if3 .left))
-    (found-name (a .at) 33 (a .log .now) names (b .before .find-name2 .ensures))
-    (heights .height _ (b .if2 .left))
+    record {
+      answer = checkpoint-taken m _ _
+          (held-name (a .at) 1 (a .log .now) names (b .before .before .before .find-name .ensures) ∙ le-ltb _ _ (b .before .before .if1 .left))
+          (held-name (a .at) 33 (a .log .now) names (b .before .find-name2 .ensures) ∙ lt-ltb _ _ (b .if2 .left))
+          (ap (leb checkpointLimit) (names .count) ∙ lt-leb _ _ (c .before .before .if3 .left))
+          (found-name (a .at) 33 (a .log .now) names (b .before .find-name2 .ensures))
+          (heights .height _ (b .if2 .left));
+      passed = refl;
+    }
 
 pub decide-checkpoint-spec : {M : Type 1} → statement M
 decide-checkpoint-spec =

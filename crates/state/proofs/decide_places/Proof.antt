@@ -21,12 +21,15 @@ array-copy-out-from c = search needs
 returns : tie.Need-returns
 unfolding row
 returns c =
-    λ m heights ancestors votes.
+    λ m s heights ancestors votes.
     let start = c .before .before .before .before .before .before in
     let a = start .args in
-    sym (places-rows m _ _ _
-    (wrong-source heights (record { voter = a .id; source = a .s .0; target = a .t .0 }) _ _ (start .pre .0 .1) (c .if1 .taken))
-    refl refl refl)
+    record {
+      answer = sym (places-rows m _ _ _
+          (wrong-source heights (record { voter = a .id; source = a .s .0; target = a .t .0 }) _ _ (start .pre .0 .1) (c .if1 .taken))
+          refl refl refl);
+      passed = refl;
+    }
 
 cast-j : tie.Need-cast-j
 cast-j c = search needs
@@ -40,12 +43,15 @@ array-copy-out-to c = search needs
 returns-2 : tie.Need-returns-2
 unfolding row
 returns-2 c =
-    λ m heights ancestors votes.
+    λ m s heights ancestors votes.
     let start = c .before .before .before .before .before .before .before .before .before .before .before in
     let a = start .args in
-    sym (places-rows m _ _ _
-    (heights-agree heights (record { voter = a .id; source = a .s .0; target = a .t .0 }) _ _ (start .pre .0 .1) (start .pre .0 .2) (c .before .before .before .before .before .if1 .left) _ (ne-eqb _ _ (c .if2 .taken)))
-    refl refl refl)
+    record {
+      answer = sym (places-rows m _ _ _
+          (heights-agree heights (record { voter = a .id; source = a .s .0; target = a .t .0 }) _ _ (start .pre .0 .1) (start .pre .0 .2) (c .before .before .before .before .before .if1 .left) _ (ne-eqb _ _ (c .if2 .taken)))
+          refl refl refl);
+      passed = refl;
+    }
 
 is-ancestor-requires : tie.Need-is-ancestor-requires
 is-ancestor-requires c κs = search needs
@@ -53,12 +59,15 @@ is-ancestor-requires c κs = search needs
 returns-3 : tie.Need-returns-3
 unfolding row
 returns-3 c =
-    λ m heights ancestors votes.
+    λ m s heights ancestors votes.
     let start = c .before .before .before .before .before .before .before .before .before .before .before .before .before in
     let a = start .args in
-    sym (places-rows m _ _ _
-    (heights-agree heights _ _ _ (start .pre .0 .1) (start .pre .0 .2) (c .before .before .before .before .before .before .before .if1 .left) _ (eq-eqb _ _ (c .before .before .if2 .left)))
-    (ancestors .ancestor _ _ ∙ sym (c .before .is-ancestor .ensures) ∙ not-true _ (c .if3 .taken)) refl refl)
+    record {
+      answer = sym (places-rows m _ _ _
+          (heights-agree heights _ _ _ (start .pre .0 .1) (start .pre .0 .2) (c .before .before .before .before .before .before .before .if1 .left) _ (eq-eqb _ _ (c .before .before .if2 .left)))
+          (ancestors .ancestor _ _ ∙ sym (c .before .is-ancestor .ensures) ∙ not-true _ (c .if3 .taken)) refl refl);
+      passed = refl;
+    }
 
 vote-held-requires : tie.Need-vote-held-requires
 vote-held-requires c κs = search needs
@@ -66,37 +75,46 @@ vote-held-requires c κs = search needs
 returns-4 : tie.Need-returns-4
 unfolding row
 returns-4 c =
-    λ m heights ancestors votes.
+    λ m s heights ancestors votes.
     let start = c .before .before .before .before .before .before .before .before .before .before .before .before .before .before .before in
     let a = start .args in
-    sym (places-rows m _ _ _
-    (heights-agree heights _ _ _ (start .pre .0 .1) (start .pre .0 .2) (c .before .before .before .before .before .before .before .before .before .if1 .left) _ (eq-eqb _ _ (c .before .before .before .before .if2 .left)))
-    (ancestors .ancestor _ _ ∙ sym (c .before .before .before .is-ancestor .ensures) ∙ not-false _ (c .before .before .if3 .left))
-    (votes .held _ ∙ sym (c .before .vote-held .ensures) ∙ c .if4 .taken) refl)
+    record {
+      answer = sym (places-rows m _ _ _
+          (heights-agree heights _ _ _ (start .pre .0 .1) (start .pre .0 .2) (c .before .before .before .before .before .before .before .before .before .if1 .left) _ (eq-eqb _ _ (c .before .before .before .before .if2 .left)))
+          (ancestors .ancestor _ _ ∙ sym (c .before .before .before .is-ancestor .ensures) ∙ not-false _ (c .before .before .if3 .left))
+          (votes .held _ ∙ sym (c .before .vote-held .ensures) ∙ c .if4 .taken) refl);
+      passed = refl;
+    }
 
 returns-5 : tie.Need-returns-5
 unfolding row
 returns-5 c =
-    λ m heights ancestors votes.
+    λ m s heights ancestors votes.
     let start = c .before .before .before .before .before .before .before .before .before .before .before .before .before .before .before .before in
     let a = start .args in
-    sym (places-rows m _ _ _
-    (heights-agree heights _ _ _ (start .pre .0 .1) (start .pre .0 .2) (c .before .before .before .before .before .before .before .before .before .before .if1 .left) _ (eq-eqb _ _ (c .before .before .before .before .before .if2 .left)))
-    (ancestors .ancestor _ _ ∙ sym (c .before .before .before .before .is-ancestor .ensures) ∙ not-false _ (c .before .before .before .if3 .left))
-    (votes .held _ ∙ sym (c .before .before .vote-held .ensures) ∙ c .before .if4 .left)
-    (ap (leb voteLimit) (votes .count) ∙ le-leb _ _ (c .if5 .taken)))
+    record {
+      answer = sym (places-rows m _ _ _
+          (heights-agree heights _ _ _ (start .pre .0 .1) (start .pre .0 .2) (c .before .before .before .before .before .before .before .before .before .before .if1 .left) _ (eq-eqb _ _ (c .before .before .before .before .before .if2 .left)))
+          (ancestors .ancestor _ _ ∙ sym (c .before .before .before .before .is-ancestor .ensures) ∙ not-false _ (c .before .before .before .if3 .left))
+          (votes .held _ ∙ sym (c .before .before .vote-held .ensures) ∙ c .before .if4 .left)
+          (ap (leb voteLimit) (votes .count) ∙ le-leb _ _ (c .if5 .taken)));
+      passed = refl;
+    }
 
 returns-6 : tie.Need-returns-6
 unfolding row
 returns-6 c =
-    λ m heights ancestors votes.
+    λ m s heights ancestors votes.
     let start = c .before .before .before .before .before .before .before .before .before .before .before .before .before .before .before .before in
     let a = start .args in
-    sym (places-rows m _ _ _
-    (heights-agree heights _ _ _ (start .pre .0 .1) (start .pre .0 .2) (c .before .before .before .before .before .before .before .before .before .before .if1 .left) _ (eq-eqb _ _ (c .before .before .before .before .before .if2 .left)))
-    (ancestors .ancestor _ _ ∙ sym (c .before .before .before .before .is-ancestor .ensures) ∙ not-false _ (c .before .before .before .if3 .left))
-    (votes .held _ ∙ sym (c .before .before .vote-held .ensures) ∙ c .before .if4 .left)
-    (ap (leb voteLimit) (votes .count) ∙ lt-leb _ _ (c .if5 .left)))
+    record {
+      answer = sym (places-rows m _ _ _
+          (heights-agree heights _ _ _ (start .pre .0 .1) (start .pre .0 .2) (c .before .before .before .before .before .before .before .before .before .before .if1 .left) _ (eq-eqb _ _ (c .before .before .before .before .before .if2 .left)))
+          (ancestors .ancestor _ _ ∙ sym (c .before .before .before .before .is-ancestor .ensures) ∙ not-false _ (c .before .before .before .if3 .left))
+          (votes .held _ ∙ sym (c .before .before .vote-held .ensures) ∙ c .before .if4 .left)
+          (ap (leb voteLimit) (votes .count) ∙ lt-leb _ _ (c .if5 .left)));
+      passed = refl;
+    }
 
 pub decide-places-spec : {M : Type 1} → statement M
 decide-places-spec =

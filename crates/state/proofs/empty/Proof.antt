@@ -1,5 +1,5 @@
 use borrow.Author.Needs.{needs}
-use Rattle.state.proofs.Readings.{empty-is}
+use Rattle.state.proofs.Stored.{empty-is}
 use Rattle.state.proofs.empty.Statement.{statement}
 use Rattle.state.proofs.empty.Tie as tie
 use Rattle.state.proofs.empty.Reads as reads

@@ -42,7 +42,7 @@ same-length-2 : tie.Need-same-length-2
 same-length-2 c = search needs
 
 returns : tie.Need-returns
-returns c = c .before .before .before .before .keep .ensures .1
+returns c = c .before .before .before .before .keep .ensures .0 .1
 
 pub advance-spec : {M : Type 1} → statement M
 advance-spec =

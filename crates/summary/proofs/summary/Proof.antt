@@ -15,22 +15,25 @@ checkpoint-lines-requires : tie.Need-checkpoint-lines-requires
 checkpoint-lines-requires c κs = let s = c .before .before in (s .pre .0, omega (arith, places-fit (s .pre .0), s .pre .1))
 
 -- what is left after the lines of the checkpoints and the members
-room : (c : tie.After-member-lines) → (c .member-lines .result ≤ 55296) × (length (c .member-lines .last .1 .0) ≡ length (c .before .before .before .before .before .before .before .args .buf .now))
+room : (c : tie.After-member-lines) → (c .member-lines .result ≤ 55296) × (length (c .member-lines .last .1 .1 .0) ≡ length (c .before .before .before .before .before .before .before .before .args .buf .now))
 room c =
-    let one = c .before .before .before .before in
+    let one = c .before .before .before .before .before in
     let sound = one .before .before .before .pre .0 in (
       omega (arith, c .member-lines .ensures .1, one .checkpoint-lines .ensures .1, places-fit sound, members-fit sound),
       kept (c .member-lines .ensures .0) ∙ kept (one .checkpoint-lines .ensures .0),
     )
 
+conducts-requires : tie.Need-conducts-requires
+conducts-requires c κs = let s = c .before .before .before .before .before in (s .pre .0 .typed, s .pre .0 .good)
+
 member-lines-requires : tie.Need-member-lines-requires
 member-lines-requires c κs =
-    let one = c .before .before .before in
+    let one = c .before .before .before .before in
     let s = one .before .before .before in
-    (s .pre .0, omega (arith, one .checkpoint-lines .ensures .1, kept (one .checkpoint-lines .ensures .0), places-fit (s .pre .0), members-fit (s .pre .0), s .pre .1))
+    (s .pre .0, c .before .conducts .ensures, omega (arith, one .checkpoint-lines .ensures .1, kept (one .checkpoint-lines .ensures .0), places-fit (s .pre .0), members-fit (s .pre .0), s .pre .1))
 
 total-bond-requires : tie.Need-total-bond-requires
-total-bond-requires c κs = let s = c .before .before .before .before .before .before .before .before .before .before .before .before in bonds-good (s .args .t1) (s .pre .0 .typed) (s .pre .0 .good)
+total-bond-requires c κs = let s = c .before .before .before .before .before .before .before .before .before .before .before .before .before in bonds-good (s .args .t1) (s .pre .0 .typed) (s .pre .0 .good)
 
 named-bonds-requires : tie.Need-named-bonds-requires
 named-bonds-requires c κs = search needs
@@ -49,7 +52,7 @@ returns c =
     let last = c .before .before in
     let conflict = last .before .before in
     let two = conflict .before .before .before .before .before .before .before .before in
-    let one = two .before .before .before .before in (
+    let one = two .before .before .before .before .before in (
       spelled (next (next (one .checkpoint-lines .ensures .0) (two .member-lines .ensures .0)) (last .total-line .ensures .0))
           (summary-is (one .before .before .before .args .t1) (conflict .before .before .total-bond .ensures) (conflict .before .named-bonds .ensures) (conflict .conflict .ensures)),
       omega (arith, room two, last .total-line .ensures .1),
@@ -60,6 +63,7 @@ summary-spec =
     tie.close
     (tie.spec
     checkpoint-lines-requires
+    conducts-requires
     member-lines-requires
     total-bond-requires
     named-bonds-requires

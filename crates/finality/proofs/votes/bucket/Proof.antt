@@ -5,13 +5,13 @@ use native.Mathlib.Nat.{le-antisymm}
 use mathlib.Core.Path.{_≡_, _∙_, subst}
 use lib.ListN.{length, length-set, length-replicate}
 use Rattle.tables.specs.Places.{placeAt}
-use Rattle.finality.specs.Chains.{Bucketed}
-use Rattle.finality.proofs.Chains.{bucketed-none, bucketed-more}
+use Rattle.tables.proofs.Chains.{bucketed-none, bucketed-more}
+use Rattle.finality.specs.Chains.{ByTarget}
 use Rattle.finality.proofs.votes.bucket.Statement.{statement}
 use Rattle.finality.proofs.votes.bucket.Tie as tie
 
 abbrev Inv-loop : tie.InvT-loop
-Inv-loop count targets head₀ next₀ k₀ head next k = (k ≤ count) × (length head ≡ 512) × Bucketed targets k head next
+Inv-loop count targets head₀ next₀ k₀ head next k = (k ≤ count) × (length head ≡ 512) × ByTarget targets k head next
 
 abbrev μ-loop : tie.MeasureT-loop
 μ-loop count targets head₀ next₀ k₀ head next k = count - k
@@ -21,7 +21,7 @@ held : (c : tie.After-struct-known Inv-loop μ-loop) → placeAt (c .before .bef
 held c = c .before .before .before .before .pre .1 (c .before .before .before .loop .k) (c .before .before .loop-test .taken)
 
 loop-holds : tie.Need-loop-holds Inv-loop μ-loop
-loop-holds c = (omega arith, length-replicate {A = ℕ} 512 0, bucketed-none _)
+loop-holds c = (omega arith, length-replicate {A = ℕ} 512 0, bucketed-none _ _)
 
 mul-t : tie.Need-mul-t Inv-loop μ-loop
 mul-t c = omega arith
@@ -73,7 +73,7 @@ loop-again c =
 returns : tie.Need-returns Inv-loop μ-loop
 returns c =
     let at = c .before .loop in
-    subst (λ (n : ℕ). Bucketed (c .before .before .args .t1) n (at .head) (at .next)) (le-antisymm (at .inv .0) (c .loop-test .left)) (at .inv .2)
+    subst (λ (n : ℕ). ByTarget (c .before .before .args .t1) n (at .head) (at .next)) (le-antisymm (at .inv .0) (c .loop-test .left)) (at .inv .2)
 
 pub bucket-spec : {M : Type 1} → statement M
 bucket-spec =

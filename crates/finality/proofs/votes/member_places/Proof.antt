@@ -7,7 +7,7 @@ use lib.ListN.{getD, take, length-replicate}
 use lib.Seq.{length-take-le}
 use Rattle.model.specs.Lists.{firstIndex}
 use Rattle.model.proofs.Lists.{first-le}
-use Rattle.finality.proofs.Table.{Filled, filled-none, filled-more}
+use Rattle.tables.proofs.Filled.{Filled, filled-none, filled-more}
 use Rattle.finality.proofs.votes.member_places.Statement.{statement}
 use Rattle.finality.proofs.votes.member_places.Tie as tie
 

@@ -15,10 +15,10 @@ use Rattle.summary.proofs.members.member_lines.Statement.{statement}
 use Rattle.summary.proofs.members.member_lines.Tie as tie
 
 abbrev Inv-loop : tie.InvT-loop
-Inv-loop buf₀ at w count places next₀ k₀ buf next k = (k ≤ count) × (next ≤ at + 112 * k) × Put buf₀ at (flatMap (lineAt w) (take k places)) buf next
+Inv-loop buf₀ at w shown count places next₀ k₀ buf next k = (k ≤ count) × (next ≤ at + 112 * k) × Put buf₀ at (flatMap (lineAt w) (take k places)) buf next
 
 abbrev μ-loop : tie.MeasureT-loop
-μ-loop buf₀ at w count places next₀ k₀ buf next k = count - k
+μ-loop buf₀ at w shown count places next₀ k₀ buf next k = count - k
 
 long : (c : tie.After-order Inv-loop μ-loop) → length (c .order .result) ≡ 128
 long c = search needs
@@ -30,13 +30,17 @@ held c =
     let s = o .before .before .before .before .before in
     all-first (s .args .t1 .«member_count») (c .before .loop .k) (o .order .result) (omega (arith, long o, members-fit (s .pre .0))) (c .loop-test .taken) (o .order .ensures .held)
 
+-- and a member is one of 128
+below : (c : tie.In-loop Inv-loop μ-loop) → getD (c .before .before .order .result) (c .before .loop .k) 0 < 128
+below c = omega (arith, held c, members-fit (c .before .before .before .before .before .before .before .pre .0))
+
 order-requires : tie.Need-order-requires Inv-loop μ-loop
 order-requires c κs = let s = c .before .before .before .before in omega (arith, members-fit (s .pre .0), s .pre .0 .typed .sized .ids)
 
 loop-holds : tie.Need-loop-holds Inv-loop μ-loop
 loop-holds c =
     let s = c .before .before .before .before .before in
-    (omega arith, omega arith, members-none (s .args .t1) (s .args .buf .now) (s .args .at) (omega (arith, s .pre .1)))
+    (omega arith, omega arith, members-none (s .args .t1) (s .args .buf .now) (s .args .at) (omega (arith, s .pre .2)))
 
 mul-p : tie.Need-mul-p Inv-loop μ-loop
 mul-p c = omega arith
@@ -45,25 +49,28 @@ array-read-p : tie.Need-array-read-p Inv-loop μ-loop
 array-read-p c = omega (arith, long (c .before .before), members-fit (c .before .before .before .before .before .before .before .pre .0))
 
 cast-p : tie.Need-cast-p Inv-loop μ-loop
-cast-p c = omega (arith, held c)
+cast-p c = omega (arith, below c)
 
-mul-id : tie.Need-mul-id Inv-loop μ-loop
-mul-id c = omega (arith, held c)
+mul-one : tie.Need-mul-one Inv-loop μ-loop
+mul-one c = omega (arith, below c)
 
-element-copy-out-id : tie.Need-element-copy-out-id Inv-loop μ-loop
-element-copy-out-id c = omega (arith, held c, members-fit (c .before .before .before .before .before .before .before .pre .0), c .before .before .before .before .before .before .before .pre .0 .typed .sized .ids)
-
-conduct-of-requires : tie.Need-conduct-of-requires Inv-loop μ-loop
-conduct-of-requires c κs = (c .before .before .before .before .before .before .before .before .pre .0 .typed, c .before .before .before .before .before .before .before .before .pre .0 .good)
+array-copy-out-one : tie.Need-array-copy-out-one Inv-loop μ-loop
+array-copy-out-one c = below c
 
 mul-member-line : tie.Need-mul-member-line Inv-loop μ-loop
-mul-member-line c = omega (arith, held (c .before .before .before))
+mul-member-line c = omega (arith, below (c .before .before))
 
 element-copy-out-member-line : tie.Need-element-copy-out-member-line Inv-loop μ-loop
-element-copy-out-member-line c = omega (arith, held (c .before .before .before), members-fit (c .before .before .before .before .before .before .before .before .before .before .pre .0), c .before .before .before .before .before .before .before .before .before .before .pre .0 .typed .sized .bonds)
+element-copy-out-member-line c = below (c .before .before)
+
+mul-member-line-2 : tie.Need-mul-member-line-2 Inv-loop μ-loop
+mul-member-line-2 c = omega (arith, below (c .before .before .before))
+
+element-copy-out-member-line-2 : tie.Need-element-copy-out-member-line-2 Inv-loop μ-loop
+element-copy-out-member-line-2 c = below (c .before .before .before)
 
 member-line-requires : tie.Need-member-line-requires Inv-loop μ-loop
-member-line-requires c κs = omega (arith, kept (c .before .before .before .before .before .loop .inv .2), c .before .before .before .before .before .before .before .before .before .before .before .pre .1)
+member-line-requires c κs = omega (arith, kept (c .before .before .before .before .before .loop .inv .2), c .before .before .before .before .before .before .before .before .before .before .before .pre .2)
 
 add-k : tie.Need-add-k Inv-loop μ-loop
 add-k c = omega arith
@@ -74,12 +81,12 @@ loop-less c = omega arith
 loop-again : tie.Need-loop-again Inv-loop μ-loop
 loop-again c =
     let called = c .before .before in
-    let shown = called .before .before .before in
-    let at = shown .before .before .before in
+    let taken = called .before .before .before .before .before in
+    let at = taken .before in
     let s = at .before .before .before .before .before .before in (
       omega arith,
       omega (arith, called .member-line .ensures .1),
-      members-more (s .args .t1) (s .args .buf .now) (s .args .at) (at .loop .k) (at .before .order .result) (omega (arith, long (at .before), members-fit (s .pre .0))) (held (shown .before .before)) (shown .conduct-of .ensures) (at .loop .inv .2) (called .member-line .ensures .0),
+      members-more (s .args .t1) (s .args .buf .now) (s .args .at) (at .loop .k) (at .before .order .result) (omega (arith, long (at .before), members-fit (s .pre .0))) (held taken) (s .pre .1 _ (held taken)) (at .loop .inv .2) (called .member-line .ensures .0),
     )
 
 same-length : tie.Need-same-length Inv-loop μ-loop
@@ -105,11 +112,12 @@ member-lines-spec =
     mul-p
     array-read-p
     cast-p
-    mul-id
-    element-copy-out-id
-    conduct-of-requires
+    mul-one
+    array-copy-out-one
     mul-member-line
     element-copy-out-member-line
+    mul-member-line-2
+    element-copy-out-member-line-2
     member-line-requires
     add-k
     loop-less

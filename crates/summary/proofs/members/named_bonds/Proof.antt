@@ -11,45 +11,46 @@ use Rattle.summary.proofs.members.named_bonds.Statement.{statement}
 use Rattle.summary.proofs.members.named_bonds.Tie as tie
 
 abbrev Inv-loop : tie.InvT-loop
-Inv-loop w count named₀ i₀ named i = (i ≤ count) × Summed w i named
+Inv-loop w shown count named₀ i₀ named i = (i ≤ count) × Summed w i named
 
 abbrev μ-loop : tie.MeasureT-loop
-μ-loop w count named₀ i₀ named i = count - i
+μ-loop w shown count named₀ i₀ named i = count - i
 
 -- a member is one of 128
 below : (c : tie.In-loop Inv-loop μ-loop) → c .before .loop .i < 128
-below c = omega (arith, c .loop-test .taken, members-fit (c .before .before .pre))
+below c = omega (arith, c .loop-test .taken, members-fit (c .before .before .pre .0))
 
 -- one more member, by its conduct
 more : (c : tie.After-is-broken Inv-loop μ-loop) {b : Bool} → b ≡ c .is-broken .result
-    → Summed (c .before .before .before .before .before .args .t1) (c .before .before .before .before .loop .i + 1) (c .before .before .before .before .loop .named + cond b (getD (c .before .before .before .before .before .args .t1 .bonds) (c .before .before .before .before .loop .i) 0) 0)
+    → Summed (c .before .before .before .before .args .t1) (c .before .before .before .loop .i + 1) (c .before .before .before .loop .named + cond b (getD (c .before .before .before .before .args .t1 .bonds) (c .before .before .before .loop .i) 0) 0)
 more c e =
-    let l = c .before .before .before .before in
-    summed-more (l .before .args .t1) (l .loop .i) (l .loop .named) (c .before .before .before .loop-test .taken) (e ∙ c .is-broken .ensures) (c .before .conduct-of .ensures) (l .loop .inv .1)
+    let taken = c .before .before .loop-test .taken in
+    let l = c .before .before .before in
+    summed-more (l .before .args .t1) (l .loop .i) (l .loop .named) taken (e ∙ c .is-broken .ensures) (l .before .pre .1 _ taken) (l .loop .inv .1)
 
 loop-holds : tie.Need-loop-holds Inv-loop μ-loop
 loop-holds c = (omega arith, summed-none (c .args .t1))
 
-mul-conduct-of : tie.Need-mul-conduct-of Inv-loop μ-loop
-mul-conduct-of c = omega (arith, below c)
+mul-one : tie.Need-mul-one Inv-loop μ-loop
+mul-one c = omega (arith, below c)
 
-element-copy-out-conduct-of : tie.Need-element-copy-out-conduct-of Inv-loop μ-loop
-element-copy-out-conduct-of c = omega (arith, below c, c .before .before .pre .typed .sized .ids)
-
-conduct-of-requires : tie.Need-conduct-of-requires Inv-loop μ-loop
-conduct-of-requires c κs = (c .before .before .before .pre .typed, c .before .before .before .pre .good)
+array-copy-out-one : tie.Need-array-copy-out-one Inv-loop μ-loop
+array-copy-out-one c = below c
 
 is-broken-requires : tie.Need-is-broken-requires Inv-loop μ-loop
 is-broken-requires c κs = omega arith
 
 mul-named : tie.Need-mul-named Inv-loop μ-loop
-mul-named c = omega (arith, below (c .before .before .before .before))
+mul-named c = omega (arith, below (c .before .before .before))
 
 element-copy-out-named : tie.Need-element-copy-out-named Inv-loop μ-loop
-element-copy-out-named c = omega (arith, below (c .before .before .before .before), c .before .before .before .before .before .before .pre .typed .sized .bonds)
+element-copy-out-named c = below (c .before .before .before)
 
 add-named : tie.Need-add-named Inv-loop μ-loop
-add-named c = omega (arith, more (c .before .before) (sym (c .before .if1 .taken)), named-bound (c .before .before .before .before .before .before .before .args .t1) (c .before .before .before .before .before .before .before .pre))
+add-named c =
+    let asked = c .before .before in
+    let s = asked .before .before .before .before in
+    omega (arith, more asked (sym (c .before .if1 .taken)), named-bound (s .args .t1) (s .pre .0))
 
 add-i : tie.Need-add-i Inv-loop μ-loop
 add-i c = omega arith
@@ -73,9 +74,8 @@ named-bonds-spec =
     Inv-loop
     μ-loop
     loop-holds
-    mul-conduct-of
-    element-copy-out-conduct-of
-    conduct-of-requires
+    mul-one
+    array-copy-out-one
     is-broken-requires
     mul-named
     element-copy-out-named

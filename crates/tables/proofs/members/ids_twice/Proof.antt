@@ -7,8 +7,7 @@ use mathlib.Core.Path.{_≡_}
 use lib.Dec.{eqb}
 use lib.ListN.{getD}
 use Rattle.model.specs.Lists.{pairBelow}
-use Rattle.tables.proofs.Below.{pair-none, pair-more, found-among}
-use Rattle.tables.proofs.Tables.{ids-all}
+use Rattle.tables.proofs.Below.{pair-none, pair-more}
 use Rattle.tables.proofs.members.ids_twice.Statement.{statement}
 use Rattle.tables.proofs.members.ids_twice.Tie as tie
 
@@ -21,14 +20,14 @@ abbrev μ-loop : tie.MeasureT-loop
 loop-holds : tie.Need-loop-holds Inv-loop μ-loop
 loop-holds c = (omega arith, pair-none _)
 
-mul-find-id : tie.Need-mul-find-id Inv-loop μ-loop
-mul-find-id c = omega arith
+mul-id-held : tie.Need-mul-id-held Inv-loop μ-loop
+mul-id-held c = omega arith
 
-shared-slice-read-find-id : tie.Need-shared-slice-read-find-id Inv-loop μ-loop
-shared-slice-read-find-id c = omega arith
+shared-slice-read-id-held : tie.Need-shared-slice-read-id-held Inv-loop μ-loop
+shared-slice-read-id-held c = omega arith
 
-find-id-requires : tie.Need-find-id-requires Inv-loop μ-loop
-find-id-requires c κs = omega arith
+id-held-requires : tie.Need-id-held-requires Inv-loop μ-loop
+id-held-requires c κs = omega arith
 
 add-j : tie.Need-add-j Inv-loop μ-loop
 add-j c = omega arith
@@ -37,7 +36,7 @@ loop-less : tie.Need-loop-less Inv-loop μ-loop
 loop-less c = omega arith
 
 loop-again : tie.Need-loop-again Inv-loop μ-loop
-loop-again c = (omega arith, pair-more _ _ (c .before .before .before .loop .inv .1) (found-among _ (ids-all _ _ (omega arith)) (c .find-id .ensures)))
+loop-again c = (omega arith, pair-more _ _ (c .before .before .before .loop .inv .1) (c .id-held .ensures))
 
 returns : tie.Need-returns Inv-loop μ-loop
 returns c = rw (le-antisymm (c .before .loop .inv .0) (c .loop-test .left)) at (c .before .loop .inv .1)
@@ -49,9 +48,9 @@ ids-twice-spec =
     Inv-loop
     μ-loop
     loop-holds
-    mul-find-id
-    shared-slice-read-find-id
-    find-id-requires
+    mul-id-held
+    shared-slice-read-id-held
+    id-held-requires
     add-j
     loop-less
     loop-again

@@ -1,12 +1,15 @@
--- `tables::tree::names_twice` meets its contract. The loop's invariant: `hit` says whether a name stands twice among the `j` passed.
--- Assumes nothing.
+-- `tables::tree::names_twice` meets its contract. Where no two names begin alike, none stands twice. The loop's invariant:
+-- `hit` says whether a name stands twice among the `j` passed. Assumes nothing.
 use Prim.Native.Nat.{_*_, _-_, _≤_}
 use native.Mathlib.Omega.{arith}
 use native.Mathlib.Nat.{le-antisymm}
-use mathlib.Core.Path.{_≡_}
+use borrow.Author.Needs.{needs}
+use borrow.Author.Tests.{not-true}
+use mathlib.Core.Path.{_≡_, sym, _∙_}
 use Rattle.model.specs.Bytes.{part}
 use Rattle.model.specs.Lists.{pairBelow, sameBytes}
 use Rattle.tables.proofs.Below.{pair-none, pair-more, found-among}
+use Rattle.tables.proofs.Firsts.{none-twice}
 use Rattle.tables.proofs.Tables.{rows-all}
 use Rattle.tables.proofs.tree.names_twice.Statement.{statement}
 use Rattle.tables.proofs.tree.names_twice.Tie as tie
@@ -16,6 +19,20 @@ Inv-loop names count hit₀ j₀ hit j = (j ≤ count) × (hit ≡ pairBelow j (
 
 abbrev μ-loop : tie.MeasureT-loop
 μ-loop names count hit₀ j₀ hit j = count - j
+
+first-bytes-requires : tie.Need-first-bytes-requires Inv-loop μ-loop
+first-bytes-requires c κs = c .before .pre
+
+slice-aggregate-numbers-twice : tie.Need-slice-aggregate-numbers-twice Inv-loop μ-loop
+slice-aggregate-numbers-twice c = search needs
+
+numbers-twice-requires : tie.Need-numbers-twice-requires Inv-loop μ-loop
+numbers-twice-requires c κs = search needs
+
+returns : tie.Need-returns Inv-loop μ-loop
+returns c =
+    let first = c .before .before .before .first-bytes in
+    none-twice _ _ (first .result) (first .ensures) (sym (not-true _ (c .if1 .taken)) ∙ c .before .numbers-twice .ensures)
 
 loop-holds : tie.Need-loop-holds Inv-loop μ-loop
 loop-holds c = (omega arith, pair-none _)
@@ -35,8 +52,8 @@ loop-less c = omega arith
 loop-again : tie.Need-loop-again Inv-loop μ-loop
 loop-again c = (omega arith, pair-more _ _ (c .before .before .loop .inv .1) (found-among _ (rows-all _ _) (c .find-name .ensures)))
 
-returns : tie.Need-returns Inv-loop μ-loop
-returns c = rw (le-antisymm (c .before .loop .inv .0) (c .loop-test .left)) at (c .before .loop .inv .1)
+returns-2 : tie.Need-returns-2 Inv-loop μ-loop
+returns-2 c = rw (le-antisymm (c .before .loop .inv .0) (c .loop-test .left)) at (c .before .loop .inv .1)
 
 pub names-twice-spec : {M : Type 1} → statement M
 names-twice-spec =
@@ -44,10 +61,14 @@ names-twice-spec =
     (tie.spec
     Inv-loop
     μ-loop
+    first-bytes-requires
+    slice-aggregate-numbers-twice
+    numbers-twice-requires
+    returns
     loop-holds
     mul-find-name
     find-name-requires
     add-j
     loop-less
     loop-again
-    returns)
+    returns-2)

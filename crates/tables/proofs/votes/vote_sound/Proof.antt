@@ -15,8 +15,8 @@ returns c =
     let a = c .before .before .before .before .args in
     no-target (a .members) (a .ids .now) (a .checkpoints) (a .parents) (a .id) (a .s .0) (a .t .0) (c .if1 .taken)
 
-find-id-requires : tie.Need-find-id-requires
-find-id-requires c κs = search needs
+id-held-requires : tie.Need-id-held-requires
+id-held-requires c κs = search needs
 
 is-ancestor-requires : tie.Need-is-ancestor-requires
 is-ancestor-requires c κs = search needs
@@ -25,9 +25,9 @@ returns-2 : tie.Need-returns-2
 returns-2 c =
     let held = c .before .before in
     let a = held .before .before .before .before .args in
-    with-target (a .members) (a .ids .now) (a .checkpoints) (a .parents) (a .id) (a .s .0) (a .t .0) (held .if1 .left) (c .before .find-id .ensures) (c .is-ancestor .ensures)
+    with-target (a .members) (a .ids .now) (a .checkpoints) (a .parents) (a .id) (a .s .0) (a .t .0) (held .before .before .before .before .pre .0) (held .if1 .left) (c .before .id-held .ensures) (c .is-ancestor .ensures)
 
 pub vote-sound-spec : {M : Type 1} → statement M
 vote-sound-spec =
     tie.close
-    (tie.spec cast-source cast-target returns find-id-requires is-ancestor-requires returns-2)
+    (tie.spec cast-source cast-target returns id-held-requires is-ancestor-requires returns-2)

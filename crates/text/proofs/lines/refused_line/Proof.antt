@@ -1,19 +1,12 @@
--- `text::lines::refused_line` meets its contract: the refusal's number is the table's. Assumes nothing.
-use Prim.Native.Nat.{ℕ}
+-- `text::lines::refused_line` meets its contract. Assumes nothing.
 use native.Mathlib.Omega.{arith}
-use mathlib.Core.Path.{ap}
+use mathlib.Core.Path.{refl}
 use borrow.Author.Needs.{needs}
 use Rattle.model.specs.Bytes.{ascii}
 use Rattle.model.specs.Report.{refusedLine, newline}
 use Rattle.text.proofs.Putting.{spelled, next}
 use Rattle.text.proofs.lines.refused_line.Statement.{statement}
 use Rattle.text.proofs.lines.refused_line.Tie as tie
-
-refusal-number-requires : tie.Need-refusal-number-requires
-refusal-number-requires c κs = search needs
-
-cast-number : tie.Need-cast-number
-cast-number c = search needs
 
 slice-aggregate-pair : tie.Need-slice-aggregate-pair
 slice-aggregate-pair c = search needs
@@ -38,16 +31,12 @@ unfolding refusedLine ascii newline
 returns c =
     let ending = c .before .before in
     let two = ending .before .before .before .before .before in
-    let number = two .before .before .before .before in
-    let k = number .before .before .args .k in
-    (spelled (next (two .pair .ensures .0) (ending .put .ensures)) (ap (λ (n : ℕ). refusedLine n k) (number .refusal-number .ensures)), omega arith)
+    (spelled (next (two .pair .ensures .0) (ending .put .ensures)) refl, omega arith)
 
 pub refused-line-spec : {M : Type 1} → statement M
 refused-line-spec =
     tie.close
     (tie.spec
-    refusal-number-requires
-    cast-number
     slice-aggregate-pair
     slice-aggregate-pair-2
     pair-requires

@@ -1,0 +1,34 @@
+-- Pairs of votes that break a condition, over the votes' numbers and heights.
+use Prim.Native.Nat.{ℕ, zero, suc}
+use mathlib.Core.List.{List, [], _∷_}
+use mathlib.Core.Bool.{Bool, cond, _&&_, _||_}
+use lib.ListN.{getD}
+use lib.Dec.{eqb, ltb}
+use Rattle.model.specs.Evidence.{Conduct, clear, broken}
+use Rattle.model.specs.Lists.{any, firstIndex}
+
+-- II, on heights: the first vote surrounds the second
+abbrev pub surround : ℕ → ℕ → ℕ → ℕ → Bool
+surround low1 high1 low2 high2 = ltb low1 low2 && ltb low2 high2 && ltb high2 high1
+
+-- I or II, in either order
+abbrev pub heightsBreak : ℕ → ℕ → ℕ → ℕ → Bool
+heightsBreak low1 high1 low2 high2 = eqb high1 high2 || surround low1 high1 low2 high2 || surround low2 high2 low1 high1
+
+-- the votes with these numbers
+abbrev pub breakAt : List ℕ → List ℕ → ℕ → ℕ → Bool
+breakAt lows highs i j = heightsBreak (getD lows i 0) (getD highs i 0) (getD lows j 0) (getD highs j 0)
+
+-- of m numbers, from i on, those that pass the test
+unfoldable pub passing : (ℕ → Bool) → ℕ → ℕ → List ℕ
+passing p i zero = []
+passing p i (suc m) = cond (p i) (i ∷ passing p (suc i) m) (passing p (suc i) m)
+
+-- the numbers of a member's votes, of n votes
+abbrev pub ownVotes : List ℕ → ℕ → ℕ → List ℕ
+ownVotes voters id n = passing (λ i. eqb (getD voters i 0) id) 0 n
+
+-- the first number that passes the test with a later one, and the first later one
+unfoldable pub pairIn : (ℕ → ℕ → Bool) → List ℕ → Conduct
+pairIn p [] = clear
+pairIn p (i ∷ is) = cond (any (p i) is) (broken i (getD is (firstIndex (p i) is) 0)) (pairIn p is)
