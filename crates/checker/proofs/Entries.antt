@@ -20,10 +20,10 @@ use Rattle.model.specs.WellFormed.{WellFormed}
 use Rattle.model.proofs.Lists.{tabulate-at}
 use Rattle.state.specs.declared.Witness.{Witness}
 use Rattle.state.specs.State.{modelOf, memberIn, voteIn, place, height}
-use Rattle.state.proofs.Decided.{field-at}
+use Rattle.state.proofs.Fields.{field-at}
 use Rattle.state.proofs.Held.{heights-held}
 use Rattle.state.proofs.Kept.{count-members, count-checkpoints, count-votes}
-use Rattle.checker.specs.Check.{VotersHeld, heightsBreak, entryAt, PairFound}
+use Rattle.entry.specs.Entry.{VotersHeld, heightsBreak, entryAt, PairFound}
 
 -- ---- the entries that are left
 

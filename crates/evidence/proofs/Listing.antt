@@ -9,20 +9,19 @@ use lib.ListN.{length, getD, take, set}
 use lib.Seq.{take-suc, getD-set-same, getD-set-other}
 use Rattle.model.specs.Evidence as Model
 use Rattle.model.specs.Evidence.{Charge, chargeOf}
-use Rattle.model.specs.Limits.{rootHeight}
 use Rattle.model.specs.Lists.{tabulate, All, none, each}
-use Rattle.model.specs.Model.{Member, noMember, memberAt}
-use Rattle.model.specs.WellFormed.{WellFormed}
-use Rattle.model.proofs.Lists.{tabulate-same, tabulate-at}
+use Rattle.model.specs.Model.{Member, memberAt}
+use Rattle.model.proofs.Lists.{tabulate-same}
 use Rattle.state.specs.declared.Witness.{Witness}
-use Rattle.state.specs.State.{memberIn, modelOf}
-use Rattle.state.proofs.Kept.{count-members}
-use Rattle.evidence.specs.declared.Conduct.{Conduct}
+use Rattle.state.specs.State.{modelOf}
+use Rattle.conduct.specs.declared.Conduct.{Conduct}
 use Rattle.evidence.specs.declared.Charges.{Charges}
-use Rattle.evidence.specs.Held.{IdsHeld, Ordered}
-use Rattle.evidence.specs.Listed.{conductAt, Shown, chargeIn, chargesOf, chargesAt}
+use Rattle.conduct.specs.Held.{Ordered}
+use Rattle.conduct.specs.Shown.{conductAt, Shown}
+use Rattle.conduct.proofs.Members.{ids-held}
+use Rattle.evidence.specs.Listed.{chargeIn, chargesOf, chargesAt}
 use Rattle.evidence.proofs.Bytes.{flat-snoc}
-use Rattle.evidence.proofs.Sorting.{all-wider}
+use Rattle.conduct.proofs.Sorting.{all-wider}
 
 -- ---- one more charge
 
@@ -77,14 +76,6 @@ flat-same : (f : Member → List Charge) (g : ℕ → List Charge) (member : ℕ
 unfolding flatMap
 flat-same f g member none = refl
 flat-same f g member (each e es) = ap₂ _++_ e (flat-same f g member es)
-
--- the ids of a witness are those of its model's members
-pub ids-held : (w : Witness) → IdsHeld (modelOf w .members) (w .ids) (w .«member_count»)
-unfolding modelOf memberAt
-ids-held w = record { count = count-members w; id = λ i h. ap (λ (x : Member). x .id) (tabulate-at (w .«member_count») (memberIn w) noMember i h) }
-
-pub members-fit : (w : Witness) → WellFormed rootHeight (modelOf w) → w .«member_count» ≤ 128
-members-fit w sound = omega (arith, sound .members .fit, count-members w)
 
 pub listed-charges : (w : Witness) (shown : List Conduct) (places : List ℕ) {cs : List Charge}
     → Ordered (w .ids) (w .«member_count») 0 places

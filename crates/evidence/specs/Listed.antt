@@ -1,5 +1,5 @@
--- What the crate's types mean in the model: a member's conduct, the charges, and what a list call answers and leaves.
-use Prim.Native.Nat.{ℕ, _<_}
+-- What the crate's types mean in the model: the charges, and what a list call answers and leaves.
+use Prim.Native.Nat.{ℕ}
 use mathlib.Core.Path.{_≡_}
 use mathlib.Core.List.{List, _++_, flatMap}
 use mathlib.Core.Bool.{cond}
@@ -10,25 +10,11 @@ use Rattle.model.specs.Evidence as Model
 use Rattle.model.specs.Evidence.{Charge}
 use Rattle.model.specs.Lists.{tabulate}
 use Rattle.model.specs.Refusals.{refusalNumber}
-use Rattle.state.specs.declared.Witness.{Witness}
-use Rattle.state.specs.State.{modelOf}
-use Rattle.evidence.specs.declared.Conduct.{Conduct}
-use Rattle.evidence.specs.declared.Conduct.the-variants.{Clear, Broken}
+use Rattle.conduct.specs.declared.Conduct.{Conduct}
+use Rattle.conduct.specs.Shown.{conductAt}
 use Rattle.evidence.specs.declared.Charges.{Charges}
 use Rattle.evidence.specs.declared.ListAnswer.{ListAnswer}
 use Rattle.evidence.specs.declared.ListAnswer.the-variants.{Length, Refused}
-
-abbrev pub conductOf : Conduct → Model.Conduct
-conductOf Clear = Model.clear
-conductOf (Broken i j) = Model.broken i j
-
--- what stands at a place
-abbrev pub conductAt : List Conduct → ℕ → Model.Conduct
-conductAt shown p = conductOf (getD shown p Clear)
-
--- what the votes of each member show stands at the member's place
-abbrev pub Shown : Witness → List Conduct → Type 0
-Shown w shown = (p : ℕ) → p < w .«member_count» → conductAt shown p ≡ Model.conduct (modelOf w) (getD (w .ids) p 0)
 
 -- the i-th charge
 abbrev pub chargeIn : Charges → ℕ → Charge

@@ -8,18 +8,18 @@ use Rattle.model.specs.Lists.{anyBelow}
 use Rattle.model.specs.Tree.{ancestor?}
 use Rattle.model.specs.Finality.{conflicting?}
 use Rattle.tables.specs.Places.{treeOf, Falling}
-use Rattle.tables.specs.Chains.{lastBelow}
+use Rattle.search.specs.Chains.{lastBelow}
 use Rattle.tables.proofs.Ancestry.{tree-tabulate}
-use Rattle.tables.proofs.Pointwise.{any-same}
+use Rattle.search.proofs.Pointwise.{any-same}
 use Rattle.state.specs.declared.Witness.{Witness}
 use Rattle.state.specs.State.{checkpointIn, modelOf}
 use Rattle.state.proofs.Kept.{count-checkpoints}
-use Rattle.finality.specs.declared.Analysis.{Analysis}
-use Rattle.finality.specs.Answers.{IsAnalysis, isFinal}
-use Rattle.finality.specs.Ready.{Sound}
+use Rattle.standing.specs.declared.Analysis.{Analysis}
+use Rattle.standing.specs.Answers.{IsAnalysis, isFinal}
+use Rattle.tally.specs.Ready.{Sound}
 use Rattle.finality.proofs.Conflicting.{no-final, some-final}
-use Rattle.finality.proofs.Ready.{parent-in}
-use Rattle.finality.proofs.Standing.{is-final}
+use Rattle.tally.proofs.Ready.{parent-in}
+use Rattle.standing.proofs.Standing.{is-final}
 
 module _ (w : Witness) (sound : Sound w) where
   pub falling : Falling (w .«checkpoint_count») (w .parents)

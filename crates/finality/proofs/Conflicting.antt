@@ -16,9 +16,9 @@ use Rattle.model.specs.WellFormed.{WellFormed}
 use Rattle.model.proofs.Lists.{decided, clash, not-so, both, and-left, and-right, lt-or-ge, Below, below-found, found-below}
 use Rattle.model.proofs.Tree.{ancestor-later, ancestor-true, true-ancestor}
 use Rattle.model.proofs.Finality.{justified-held, final-true, true-final, conflict-exact}
-use Rattle.tables.specs.Chains.{lastBelow}
-use Rattle.tables.proofs.Below.{same-test}
-use Rattle.tables.proofs.Chains.{last-le, last-above, last-at}
+use Rattle.search.specs.Chains.{lastBelow}
+use Rattle.search.proofs.Below.{same-test}
+use Rattle.search.proofs.Chains.{last-le, last-above, last-at}
 
 -- two ancestors of one checkpoint are equal, or one is the other's ancestor
 comparable : {cs : List Checkpoint} {a b t : ℕ} → Ancestor cs a t → Ancestor cs b t → (a ≡ b) ⊎ (Ancestor cs a b ⊎ Ancestor cs b a)

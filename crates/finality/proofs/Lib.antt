@@ -1,9 +1,2 @@
-pub mod Bits
-pub mod Chains
-pub mod Weights
-pub mod Backed
-pub mod Marks
-pub mod Ready
-pub mod Standing
 pub mod Conflicting
 pub mod Answered

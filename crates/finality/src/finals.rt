@@ -1,14 +1,14 @@
 // The final checkpoints of an analysis, and whether two of them conflict.
-use crate::Analysis;
 use model::Place;
+use standing::Analysis;
 ghost use mathlib.Core.Path.{_≡_};
 ghost use mathlib.Core.Bool.{_&&_, not};
 ghost use Prim.Native.Nat.{_≤_, _<_};
 ghost use Rattle.model.specs.Lists.{anyBelow};
 ghost use Rattle.model.specs.Tree.{ancestor?};
 ghost use Rattle.tables.specs.Places.{treeOf, Falling};
-ghost use Rattle.tables.specs.Chains.{lastBelow};
-ghost use Rattle.finality.specs.Answers.{isFinal};
+ghost use Rattle.search.specs.Chains.{lastBelow};
+ghost use Rattle.standing.specs.Answers.{isFinal};
 
 // The greatest final place plus 1; 0 where none is final.
 pub fn last_final(a: Analysis, places: usize) -> usize

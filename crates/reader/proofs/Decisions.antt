@@ -1,7 +1,7 @@
 -- One round of reading on: what the code decided on the record at the offset, and what comes of it.
 use Prim.Native.Nat.{ℕ, _-_, _≤_}
 use native.Mathlib.Omega.{arith}
-use mathlib.Core.Path.{_≡_, sym, subst}
+use mathlib.Core.Path.{sym, subst}
 use mathlib.Core.List.{List}
 use lib.ListN.{length, drop, length-drop}
 use Rattle.model.specs.Answer.{Answer}
@@ -9,9 +9,9 @@ use Rattle.model.specs.Bytes.{AreBytes}
 use Rattle.model.specs.Decide.{decide}
 use Rattle.model.specs.Log.{recordLength}
 use Rattle.model.specs.Model.{Change}
-use Rattle.state.specs.Decision.{decisionOf, passedBy, Decides}
+use Rattle.rules.specs.Decision.{decisionOf, passedBy, Decides}
 use Rattle.state.specs.State.{modelOf, store}
-use Rattle.state.specs.declared.Decision.{Decision}
+use Rattle.rules.specs.declared.Decision.{Decision}
 use Rattle.state.specs.declared.Witness.{Witness}
 use Rattle.reader.proofs.Runs.{Sound, bytes-left, reading-sound}
 use Rattle.reader.proofs.Made.{length-inside}

@@ -1,5 +1,5 @@
 pub mod Runs
 pub mod Made
 pub mod Decisions
-pub mod Walks
+pub mod Searched
 pub mod Example

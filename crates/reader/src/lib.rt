@@ -1,5 +1,5 @@
-// Reading a log on: several records in one call, and the log reader that document 01 names.
-use state::Decision;
+// Reading a log on: several records in one call.
+use rules::Decision;
 use state::Outcome;
 use state::Reading;
 use state::Witness;
@@ -38,11 +38,17 @@ fn row_of(o: Outcome) -> u8
 
 // The records from `at` on, into a sound witness, to the log's end or its stop, or as many as there are rows lent; the row of
 // each goes there. The state is owned here alone and written in place: it is large, and a function that took it and gave it
-// back for each record would copy it each time.
+// back for each record would copy it each time. Beside it go the votes' numbers in chains, so that a vote is soon looked for.
 pub fn read_many(w: Witness, log: &[u8], at: usize, rows: &mut [u8]) -> Batch
     requires { ⌜ Typed w × WellFormed rootHeight (modelOf w) ⌝ }
     ensures { λ r. ⌜ IsBatch (readMany (length (now (rows .entry))) w (now (log .entry)) at) (now (rows .entry)) r (now (rows .exit)) ⌝ }
 {
+    let sources = w.sources;
+    let targets = w.targets;
+    let links = tables::votes::index(&w.voters, sources, targets, w.vote_count);
+    let mut keys = links.numbers;
+    let mut heads = links.heads;
+    let mut nexts = links.nexts;
     let mut held = w;
     let mut next = at;
     let mut last = Outcome::Nothing;
@@ -53,24 +59,22 @@ pub fn read_many(w: Witness, log: &[u8], at: usize, rows: &mut [u8]) -> Batch
         let votes = held.vote_count;
         let parents = held.parents;
         let heights = held.heights;
-        let sources = held.sources;
-        let targets = held.targets;
-        let d = state::decide_record(
+        let d = rules::decide_record(
             &held.ids,
             members,
             &held.names,
             parents,
             heights,
             checkpoints,
-            &held.voters,
-            sources,
-            targets,
+            &keys,
+            &heads,
+            &nexts,
             votes,
             log,
             next,
         );
-        let outcome = state::outcome_of(d);
-        let passed = state::passed_by(d);
+        let outcome = rules::outcome_of(d);
+        let passed = rules::passed_by(d);
         if passed == 0 {
             return Batch {
                 end: outcome,
@@ -97,6 +101,8 @@ pub fn read_many(w: Witness, log: &[u8], at: usize, rows: &mut [u8]) -> Batch
                 held.sources[votes] = s;
                 held.targets[votes] = t;
                 held.vote_count = votes + 1;
+                let key = tables::votes::key(id, s, t);
+                search::put_first(&mut keys, &mut heads, &mut nexts, votes, key);
             }
             Decision::Nothing => {}
             Decision::Refuse(_, _) => {}
@@ -116,7 +122,7 @@ pub fn read_many(w: Witness, log: &[u8], at: usize, rows: &mut [u8]) -> Batch
 }
 
 // The record at `from`, into a sound witness.
-fn read_record(w: Witness, log: &[u8], from: usize) -> Reading
+pub fn read_record(w: Witness, log: &[u8], from: usize) -> Reading
     requires { ⌜ Typed w × WellFormed rootHeight (modelOf w) ⌝ }
     ensures { λ r. ⌜
         IsReading w
@@ -142,43 +148,4 @@ fn read_record(w: Witness, log: &[u8], from: usize) -> Reading
         next: r.next,
         witness,
     }
-}
-
-// The log reader: the lent log and the offset reached, as one record.
-pub struct LogReader<'a> {
-    pub log: &'a [u8],
-    pub at: usize,
-}
-
-// A reader of a lent log from an offset on.
-pub fn new<'a>(log: &'a [u8], at: usize) -> LogReader<'a>
-    ensures { λ r. ⌜ (r .log ≡ log .entry) × (r .at ≡ at) ⌝ }
-{
-    LogReader { log, at }
-}
-
-// The record at the reader's offset, into a sound witness; the reading's `next` is the offset to go on from.
-pub fn next_record<'a>(r: LogReader<'a>, w: Witness) -> Reading
-    requires { ⌜ Typed w × WellFormed rootHeight (modelOf w) ⌝ }
-    ensures { λ s. ⌜
-        IsReading w
-        (decide (modelOf w) (drop (r .entry .at) (now (r .entry .log))))
-        (r .entry .at + recordLength (drop (r .entry .at) (now (r .entry .log))))
-        s
-        ⌝ }
-{
-    read_record(w, r.log, r.at)
-}
-
-// The record at `at`, by a log reader; whoever calls it names no reader.
-pub fn read_at(w: Witness, log: &[u8], at: usize) -> Reading
-    requires { ⌜ Typed w × WellFormed rootHeight (modelOf w) ⌝ }
-    ensures { λ r. ⌜
-        IsReading w
-        (decide (modelOf w) (drop at (now (log .entry))))
-        (at + recordLength (drop at (now (log .entry))))
-        r
-        ⌝ }
-{
-    next_record(new(log, at), w)
 }

@@ -18,7 +18,7 @@ use Rattle.model.specs.Report.{stops?, outcomeLine}
 use Rattle.model.proofs.Sound.{true-well-formed}
 use Rattle.state.specs.State.{modelOf, store}
 use Rattle.state.specs.declared.Witness.{Witness}
-use Rattle.state.proofs.ByKind.{Decided, unknown-kind, cut-record}
+use Rattle.rules.proofs.ByKind.{Decided, unknown-kind, cut-record}
 use Rattle.state.proofs.Kept.{reading-kept}
 use Rattle.reader.proofs.Runs.{Sound, reading-sound, bytes-left}
 use Rattle.witness.specs.Calls.{sound?}

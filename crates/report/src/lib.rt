@@ -72,7 +72,7 @@ fn refused_lines(buf: &mut [u8], at: usize, k: u64, rows: &[u8]) -> usize
     while i < rows.len() {
         let row = rows[i];
         if row != 0 {
-            end = text::lines::refused_line(buf, end, k + i as u64, row);
+            end = lines::refused_line(buf, end, k + i as u64, row);
         }
         i += 1;
     }
@@ -91,7 +91,7 @@ fn halt(w: Witness, buf: &mut [u8], at: usize, next: usize, k: u64, o: Outcome) 
     match o {
         Outcome::Refused(r) => {
             if refusals::refusal_number(r) == 4 {
-                let written = text::lines::stopped_line(buf, at, r, k);
+                let written = lines::stopped_line(buf, at, r, k);
                 return Fed {
                     pause: Pause::Ended,
                     next,
@@ -190,7 +190,7 @@ pub fn open(w: Witness, log: &[u8], last: bool, buf: &mut [u8]) -> Fed
             witness: held,
         },
         Start::Refused(r) => {
-            let written = text::lines::stopped_line(buf, 0, r, 0);
+            let written = lines::stopped_line(buf, 0, r, 0);
             Fed {
                 pause: Pause::Ended,
                 next: 0,
@@ -235,7 +235,7 @@ fn last_text(w: Witness, records: u64, left: usize, text: &mut [u8]) -> usize
     if left == 0 {
         return summary::summary(w, text);
     }
-    text::lines::stopped_line(text, 0, Refusal::CutRecord, records)
+    lines::stopped_line(text, 0, Refusal::CutRecord, records)
 }
 
 // The last text, into a buffer that may be too short for it; it is made elsewhere first, so that nothing is written then.

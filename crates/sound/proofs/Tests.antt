@@ -16,11 +16,10 @@ use Rattle.model.specs.Tree.{ancestor?}
 use Rattle.model.specs.WellFormed.{bonds?, tree?, vote?, votes?, idTwice?, nameTwice?, voteTwice?, wellFormed?}
 use Rattle.model.proofs.Lists.{tabulate-at}
 use Rattle.tables.specs.Places.{placeAt, heightAt, isStep, isVote, isSound}
-use Rattle.tables.proofs.Pointwise.{all-same, pair-same}
+use Rattle.search.proofs.Pointwise.{all-same, pair-same}
 use Rattle.state.specs.State.{modelOf, memberIn, checkpointIn, voteIn}
 use Rattle.state.specs.declared.Witness.{Witness}
-use Rattle.state.proofs.Decided.{held-id}
-use Rattle.state.proofs.Held.{members-held, ancestors-held}
+use Rattle.state.proofs.Held.{held-id, members-held, ancestors-held}
 use Rattle.state.proofs.Kept.{count-members, count-checkpoints, count-votes}
 
 and-true : (b : Bool) → b ≡ (b && true)

@@ -1,22 +1,27 @@
 -- The arrays of a witness hold its model.
-use Prim.Native.Nat.{ℕ, _+_, _*_, _<_, _≤_}
+use Prim.Native.Nat.{ℕ, _+_, _<_, _≤_}
 use native.Mathlib.Omega.{arith}
-use mathlib.Core.Path.{_≡_, refl, sym, ap, ap₂, _∙_}
-use mathlib.Core.List.{List, []}
-use mathlib.Core.Bool.{Bool}
-use lib.ListN.{length, getD, take}
-use lib.Seq.{length-take-le, getD-take}
-use lib.Dec.{eqb}
-use Rattle.model.specs.Bytes.{part}
+use mathlib.Core.Path.{_≡_, refl, sym, ap, ap₂, _∙_, subst}
+use mathlib.Core.List.{List, [], _∷_}
+use mathlib.Core.Bool.{Bool, false, _||_}
+use lib.ListN.{length, getD, set, take, length-append}
+use lib.Seq.{length-take-le, getD-take, getD-set-same, getD-set-other}
+use lib.Dec.{eqb, ltb}
+use Rattle.model.specs.Decide.{idHeld}
 use Rattle.model.specs.Lists.{tabulate, firstIndex, sameBytes}
-use Rattle.model.specs.Model.{Model, Member, Checkpoint, noMember, noCheckpoint, memberIndex, placeOf, checkpointAt, voteHeld, sameVote}
-use Rattle.model.proofs.Lists.{first-same, length-tabulate, tabulate-at, any-tabulate}
+use Rattle.model.specs.Model.{Model, Member, Checkpoint, Vote, noMember, noCheckpoint, memberIndex, placeOf, checkpointAt, voteHeld, sameVote, append}
+use Rattle.model.proofs.Lists.{first-same, length-tabulate, tabulate-at, any-tabulate, any-append}
+use Rattle.tables.specs.Keys.{Packed}
 use Rattle.tables.specs.Rows.{rows}
+use Rattle.tables.proofs.Keys.{same-pack, packed-is}
+use Rattle.search.proofs.Below.{any-more}
+use Rattle.search.proofs.Pointwise.{any-same}
 use Rattle.tables.proofs.Ancestry.{tree-tabulate}
 use Rattle.tables.proofs.Tables.{rows-length, rows-at}
 use Rattle.state.specs.declared.Witness.{Witness}
-use Rattle.state.specs.State.{modelOf, memberIn, checkpointIn, voteIn}
-use Rattle.state.specs.Tables.{MembersHeld, NamesHeld, HeightsHeld, AncestorsHeld, VotesHeld, Held}
+use Rattle.state.specs.State.{Sized, modelOf, memberIn, checkpointIn, voteIn, withMember, withCheckpoint, withVote}
+use Rattle.state.specs.Tables.{MembersHeld, NamesHeld, HeightsHeld, AncestorsHeld, keyOf, VotesHeld, Held}
+use Rattle.state.proofs.Store.{store-vote}
 
 module _ (w : Witness) where
   pub members-held : w .«member_count» ≤ length (w .ids) → MembersHeld (modelOf w) (w .ids) (w .«member_count»)
@@ -55,13 +60,52 @@ module _ (w : Witness) where
   unfolding modelOf
   ancestors-held = record { ancestor = λ a b. sym (tree-tabulate (w .«checkpoint_count») (w .parents) (checkpointIn w) (λ i h. refl) a b) }
 
-  pub votes-held : VotesHeld (modelOf w) (w .voters) (w .sources) (w .targets) (w .«vote_count»)
+  -- the votes' numbers hold the votes
+  pub votes-held : {keys : List ℕ} → Packed (w .voters) (w .sources) (w .targets) (w .«vote_count») keys → VotesHeld (modelOf w) keys (w .«vote_count»)
   unfolding modelOf voteHeld
-  votes-held =
+  votes-held {keys} packed =
+      let n = w .«vote_count» in
       record {
-        count = length-tabulate (w .«vote_count») (voteIn w);
-        held = λ v. any-tabulate (λ u. sameVote u v) (w .«vote_count») (voteIn w);
+        count = length-tabulate n (voteIn w);
+        held = λ v hs ht.
+            any-tabulate (λ u. sameVote u v) n (voteIn w)
+            ∙ any-same n (λ k. sameVote (voteIn w k) v) (λ k. eqb (getD keys k 0) (keyOf v)) (λ k h. sym (packed-is (w .voters) (w .sources) (w .targets) packed k (v .voter) (v .source) (v .target) h hs ht));
       }
 
-  pub all-held : w .«member_count» ≤ length (w .ids) → Held (modelOf w) (w .ids) (w .«member_count») (w .names) (w .parents) (w .heights) (w .«checkpoint_count») (w .voters) (w .sources) (w .targets) (w .«vote_count»)
-  all-held fits = record { members-held = members-held fits; names-held = names-held; heights-held = heights-held; ancestors-held = ancestors-held; votes-held = votes-held }
+  pub all-held : {keys : List ℕ} → w .«member_count» ≤ length (w .ids) → VotesHeld (modelOf w) keys (w .«vote_count») → Held (modelOf w) (w .ids) (w .«member_count») (w .names) (w .parents) (w .heights) (w .«checkpoint_count») keys (w .«vote_count»)
+  all-held fits votes = record { members-held = members-held fits; names-held = names-held; heights-held = heights-held; ancestors-held = ancestors-held; votes-held = votes }
+
+-- whether a member is held, by the search in the table
+pub held-id : {m : Model} {ids : List ℕ} {n : ℕ} (id : ℕ) {r : ℕ} → MembersHeld m ids n → r ≡ firstIndex (λ x. eqb x id) (take n ids) → idHeld m id ≡ ltb r n
+unfolding idHeld
+held-id {n = n} id {r} h e = ap₂ ltb (h .index id ∙ sym e) (h .count)
+
+-- ---- the votes' numbers, once more is held
+
+module _ (w : Witness) {keys : List ℕ} (held : VotesHeld (modelOf w) keys (w .«vote_count»)) where
+  pub member-kept : (x : Member) → VotesHeld (modelOf (withMember w x)) keys (w .«vote_count»)
+  unfolding modelOf withMember
+  member-kept x = record { count = held .count; held = held .held }
+
+  pub checkpoint-kept : (c : Checkpoint) → VotesHeld (modelOf (withCheckpoint w c)) keys (w .«vote_count»)
+  unfolding modelOf withCheckpoint
+  checkpoint-kept c = record { count = held .count; held = held .held }
+
+  pub vote-more : Sized w → (v : Vote) → w .«vote_count» < 4096 → length keys ≡ 4096 → v .source < 65536 → v .target < 65536 → VotesHeld (modelOf (withVote w v)) (set keys (w .«vote_count») (keyOf v)) (w .«vote_count» + 1)
+  unfolding append voteHeld
+  vote-more sized v room long vs vt =
+      subst (λ (m : Model). VotesHeld m (set keys (w .«vote_count») (keyOf v)) (w .«vote_count» + 1)) (sym (store-vote w sized v room))
+      (record {
+        count = length-append (modelOf w .votes) (v ∷ []) ∙ omega (arith, held .count);
+        held = λ u us ut.
+            any-append (λ x. sameVote x u) v (modelOf w .votes) v
+            ∙ ap₂ _||_ (held .held u us ut ∙ any-same n (λ k. eqb (getD keys k 0) (keyOf u)) (new u) (λ k h. ap (λ (x : ℕ). eqb x (keyOf u)) (sym (getD-set-other keys n k (keyOf v) 0 (λ q. omega arith)))))
+            (sym (same-pack (v .voter) (v .source) (v .target) (u .voter) (u .source) (u .target) vs vt us ut) ∙ ap (λ (x : ℕ). eqb x (keyOf u)) (sym (getD-set-same keys n (keyOf v) 0 (omega (arith, long)))))
+            ∙ any-more false n (new u) refl;
+      })
+    where
+      n : ℕ
+      n = w .«vote_count»
+
+      new : Vote → ℕ → Bool
+      new u k = eqb (getD (set keys n (keyOf v)) k 0) (keyOf u)

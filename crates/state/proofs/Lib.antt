@@ -1,9 +1,8 @@
-pub mod Decided
+pub mod Fields
 pub mod Held
 pub mod Store
 pub mod Kept
 pub mod Stored
 pub mod Header
-pub mod ByKind
 pub mod Ready
 pub mod Started

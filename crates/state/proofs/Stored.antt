@@ -10,7 +10,7 @@ use Rattle.model.specs.declared.Height.{Height}
 use Rattle.model.specs.declared.Place.{Place}
 use Rattle.state.specs.State.{place, height, emptyWitness, withCheckpoint}
 use Rattle.state.specs.declared.Witness.{Witness}
-use Rattle.state.proofs.Decided.{part-at}
+use Rattle.state.proofs.Fields.{part-at}
 
 -- 32 bytes pasted from the log, or from the name cut out of it
 paste-name : (d : List ℕ) (k at i : ℕ) (log : List ℕ) → paste d k (drop (at + i) log) 32 ≡ paste d k (part i 32 (drop at log)) 32

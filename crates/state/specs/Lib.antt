@@ -1,4 +1,3 @@
 pub mod State
 pub mod Tables
-pub mod Decision
 pub mod Reading

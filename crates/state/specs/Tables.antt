@@ -1,5 +1,6 @@
--- How the arrays hold a model: what the searches over them find is what the model's searches find.
-use Prim.Native.Nat.{ℕ, _*_, _<_}
+-- How the arrays, and the votes' numbers beside them, hold a model: what the searches over them find is what the model's searches
+-- find.
+use Prim.Native.Nat.{ℕ, _<_}
 use mathlib.Core.Path.{_≡_}
 use mathlib.Core.List.{List}
 use lib.ListN.{length, getD, take}
@@ -9,7 +10,8 @@ use Rattle.model.specs.Model.{Model, Vote, memberIndex, placeOf, heightOf, vote
 use Rattle.model.specs.Tree.{ancestor?}
 use Rattle.model.specs.declared.Height.{Height}
 use Rattle.model.specs.declared.Place.{Place}
-use Rattle.tables.specs.Places.{treeOf, isVote}
+use Rattle.tables.specs.Keys.{pack}
+use Rattle.tables.specs.Places.{treeOf}
 use Rattle.tables.specs.Rows.{rows}
 use Rattle.state.specs.State.{height}
 
@@ -27,17 +29,22 @@ pub record HeightsHeld (m : Model) (heights : List Height) (n : ℕ) : Type 0 wh
 pub record AncestorsHeld (m : Model) (parents : List Place) (n : ℕ) : Type 0 where
   pub ancestor : (a b : ℕ) → ancestor? (m .checkpoints) a b ≡ ancestor? (treeOf n parents) a b
 
-pub record VotesHeld (m : Model) (voters : List ℕ) (sources targets : List Place) (n : ℕ) : Type 0 where
+-- a vote as one number
+abbrev pub keyOf : Vote → ℕ
+keyOf v = pack (v .voter) (v .source) (v .target)
+
+-- a vote between places of 16 bits is held exactly when its number is among the first n
+pub record VotesHeld (m : Model) (keys : List ℕ) (n : ℕ) : Type 0 where
   pub count : length (m .votes) ≡ n
-  pub held : (v : Vote) → voteHeld (m .votes) v ≡ anyBelow n (λ k. isVote voters sources targets (v .voter) (v .source) (v .target) k)
+  pub held : (v : Vote) → v .source < 65536 → v .target < 65536 → voteHeld (m .votes) v ≡ anyBelow n (λ k. eqb (getD keys k 0) (keyOf v))
 
 -- all of them
-pub record Held (m : Model) (ids : List ℕ) (members : ℕ) (names : List ℕ) (parents : List Place) (heights : List Height) (checkpoints : ℕ) (voters : List ℕ) (sources targets : List Place) (votes : ℕ) : Type 0 where
+pub record Held (m : Model) (ids : List ℕ) (members : ℕ) (names : List ℕ) (parents : List Place) (heights : List Height) (checkpoints : ℕ) (keys : List ℕ) (votes : ℕ) : Type 0 where
   pub members-held : MembersHeld m ids members
   pub names-held : NamesHeld m names checkpoints
   pub heights-held : HeightsHeld m heights checkpoints
   pub ancestors-held : AncestorsHeld m parents checkpoints
-  pub votes-held : VotesHeld m voters sources targets votes
+  pub votes-held : VotesHeld m keys votes
 
 -- no height is so large that a child's would not fit
 abbrev pub Low : ℕ → List Height → Type 0

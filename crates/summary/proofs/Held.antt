@@ -6,8 +6,8 @@ use Rattle.model.specs.Model.{Checkpoint, noMember, noCheckpoint, memberAt, che
 use Rattle.model.proofs.Lists.{tabulate-at}
 use Rattle.state.specs.declared.Witness.{Witness}
 use Rattle.state.specs.State.{memberIn, checkpointIn, height, modelOf}
-use Rattle.finality.specs.Ready.{Sound}
-use Rattle.finality.proofs.Backed.{few-members, few-places}
+use Rattle.tally.specs.Ready.{Sound}
+use Rattle.tally.proofs.Backed.{few-members, few-places}
 
 module _ (w : Witness) (i : ℕ) where
   pub member-in : i < w .«member_count» → memberAt (modelOf w .members) i ≡ memberIn w i

@@ -15,11 +15,11 @@ use Rattle.model.specs.declared.Status.{Status}
 use Rattle.state.specs.declared.Witness.{Witness}
 use Rattle.state.specs.State.{memberIn, height, modelOf}
 use Rattle.state.proofs.Kept.{count-checkpoints}
-use Rattle.finality.specs.Bits.{sumBelow}
-use Rattle.finality.proofs.Backed.{all-sum}
-use Rattle.evidence.specs.Held.{Ordered}
+use Rattle.tally.specs.Bits.{sumBelow}
+use Rattle.tally.proofs.Backed.{all-sum}
+use Rattle.conduct.specs.Held.{Ordered}
 use Rattle.evidence.proofs.Bytes.{flat-snoc}
-use Rattle.evidence.proofs.Listing.{ids-held}
+use Rattle.conduct.proofs.Members.{ids-held}
 use Rattle.text.specs.Put.{Put}
 use Rattle.text.proofs.Putting.{none, spelled, next}
 use Rattle.summary.proofs.Held.{member-in, height-in}

@@ -14,9 +14,9 @@ use Rattle.model.specs.Support.{sum, total}
 use Rattle.state.specs.declared.Witness.{Witness}
 use Rattle.state.specs.State.{modelOf}
 use Rattle.state.proofs.Kept.{count-members}
-use Rattle.finality.specs.Ready.{Sound}
-use Rattle.finality.proofs.Bits.{sum-bound}
-use Rattle.finality.proofs.Backed.{all-sum, bonds-good}
+use Rattle.tally.specs.Ready.{Sound}
+use Rattle.tally.proofs.Bits.{sum-bound}
+use Rattle.tally.proofs.Backed.{all-sum, bonds-good}
 use Rattle.summary.proofs.Held.{member-in}
 
 part-least : (b : Bool) (x : ℕ) → cond b x 0 ≤ x

@@ -5,7 +5,7 @@ ghost use Prim.Native.Nat.{_+_, _*_, _≤_};
 ghost use lib.ListN.{length};
 ghost use Rattle.model.specs.Report.{checkpointLines};
 ghost use Rattle.state.specs.State.{modelOf};
-ghost use Rattle.finality.specs.Ready.{Sound};
+ghost use Rattle.tally.specs.Ready.{Sound};
 ghost use Rattle.text.specs.Put.{Put};
 
 pub fn checkpoint_lines(w: Witness, buf: &mut [u8], at: usize) -> usize
@@ -15,13 +15,13 @@ pub fn checkpoint_lines(w: Witness, buf: &mut [u8], at: usize) -> usize
         ⌝ }
 {
     let count = w.checkpoint_count;
-    let a = finality::statuses(w);
+    let a = standing::statuses(w);
     let mut next = at;
     let mut p: usize = 0;
     while p < count {
         let place = Place(p as u16);
-        let status = finality::status_of(a, place);
-        next = text::lines::checkpoint_line(buf, next, place, w.heights[p], status);
+        let status = standing::status_of(a, place);
+        next = lines::checkpoint_line(buf, next, place, w.heights[p], status);
         p += 1;
     }
     next

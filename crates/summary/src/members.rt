@@ -1,5 +1,5 @@
 // The lines of the members, by rising id, and the bonds of those who broke a rule.
-use evidence::Conduct;
+use conduct::Conduct;
 use state::Witness;
 ghost use mathlib.Core.Path.{_≡_};
 ghost use mathlib.Core.List.{flatMap};
@@ -9,8 +9,8 @@ ghost use Rattle.model.specs.Evidence.{broken?, violator?, byId};
 ghost use Rattle.model.specs.Report.{memberText, memberLine};
 ghost use Rattle.model.specs.Support.{sum};
 ghost use Rattle.state.specs.State.{modelOf};
-ghost use Rattle.evidence.specs.Listed.{conductOf, Shown};
-ghost use Rattle.finality.specs.Ready.{Sound};
+ghost use Rattle.conduct.specs.Shown.{conductOf, Shown};
+ghost use Rattle.tally.specs.Ready.{Sound};
 ghost use Rattle.text.specs.Put.{Put};
 
 // A member's line.
@@ -19,8 +19,8 @@ pub fn member_line(buf: &mut [u8], at: usize, id: u16, bond: u64, shown: Conduct
     ensures { λ r. ⌜ Put (now (buf .entry)) at (memberText id bond (conductOf shown)) (now (buf .exit)) r × (r ≤ at + 112) ⌝ }
 {
     match shown {
-        Conduct::Clear => text::lines::clear_line(buf, at, id, bond),
-        Conduct::Broken(i, j) => text::lines::broken_line(buf, at, id, bond, i, j),
+        Conduct::Clear => lines::clear_line(buf, at, id, bond),
+        Conduct::Broken(i, j) => lines::broken_line(buf, at, id, bond, i, j),
     }
 }
 
@@ -32,7 +32,7 @@ pub fn member_lines(w: Witness, shown: [Conduct; 128], buf: &mut [u8], at: usize
         ⌝ }
 {
     let count = w.member_count;
-    let places = evidence::order(&w.ids, count);
+    let places = conduct::order(&w.ids, count);
     let mut next = at;
     let mut k: usize = 0;
     while k < count {

@@ -1,11 +1,6 @@
-pub mod Search
 pub mod Tables
-pub mod Below
 pub mod Steps
 pub mod Ancestry
 pub mod Sound
-pub mod Pointwise
-pub mod Filled
-pub mod Chains
 pub mod Keys
 pub mod Firsts

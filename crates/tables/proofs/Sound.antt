@@ -10,7 +10,7 @@ use Rattle.model.specs.declared.Place.{Place}
 use Rattle.model.specs.Lists.{anyBelow}
 use Rattle.model.specs.Tree.{ancestor?}
 use Rattle.tables.specs.Places.{treeOf, isSound}
-use Rattle.tables.proofs.Below.{found-among}
+use Rattle.search.proofs.Below.{found-among}
 use Rattle.tables.proofs.Tables.{ids-all}
 
 module _ (members : ℕ) (ids : List ℕ) (checkpoints : ℕ) (parents : List Place) (id s t : ℕ) where

@@ -12,7 +12,7 @@ use Rattle.model.specs.declared.Height.{Height}
 use Rattle.model.specs.Lists.{allBelow}
 use Rattle.model.proofs.Lists.{and-left, or-cases}
 use Rattle.tables.specs.Places.{placeAt, heightAt, isStep, Falling}
-use Rattle.tables.proofs.Below.{all-each}
+use Rattle.search.proofs.Below.{all-each}
 
 module _ (ps : List Place) (hs : List Height) where
   -- the root takes no step

@@ -1,4 +1,4 @@
 -- What the searches over the held tables say.
 pub mod Rows
 pub mod Places
-pub mod Chains
+pub mod Keys

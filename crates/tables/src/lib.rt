@@ -9,7 +9,6 @@ ghost use Rattle.model.specs.Lists.{firstIndex, sameBytes};
 ghost use Rattle.tables.specs.Rows.{rows};
 
 pub mod members;
-pub mod numbers;
 pub mod tree;
 pub mod votes;
 
@@ -28,15 +27,18 @@ pub fn find_id(ids: &[u16], count: usize, id: u16) -> usize
     i
 }
 
-// The index of the first of the `count` names that is the 32 bytes of s at `at`; `count` where none is.
+// The index of the first of the `count` names that is the 32 bytes of s at `at`; `count` where none is. Most
+// often the last byte tells two names apart.
 pub fn find_name(names: &[u8], count: usize, s: &[u8], at: usize) -> usize
     requires { ⌜ (32 * count ≤ length (now names)) × (at + 32 ≤ length (now s)) ⌝ }
     ensures { λ r. ⌜ r ≡ firstIndex (λ n. sameBytes n (part at 32 (now (s .entry)))) (rows count (now (names .entry))) ⌝ }
 {
     let mut i: usize = 0;
     while i < count {
-        if wire::same(names, i * 32, s, at, 32) {
-            return i;
+        if names[i * 32 + 31] == s[at + 31] {
+            if wire::same(names, i * 32, s, at, 32) {
+                return i;
+            }
         }
         i += 1;
     }

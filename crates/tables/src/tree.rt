@@ -1,8 +1,8 @@
 // The held checkpoints, three tables: of their names, of their parents and of their heights.
 use crate::find_name;
-use crate::numbers::numbers_twice;
 use model::Height;
 use model::Place;
+use search::numbers_twice;
 ghost use mathlib.Core.Path.{_≡_};
 ghost use Prim.Native.Nat.{ℕ, _*_, _≤_, _<_};
 ghost use lib.ListN.{length, getD};
@@ -25,8 +25,7 @@ fn first_bytes(names: &[u8], count: usize) -> [u64; 512]
     numbers
 }
 
-// Whether some name stands twice among the `count` names. Names are hashes, so most often their first bytes tell them
-// apart; where they do not, each name is looked for among those before it.
+// Whether some name stands twice among the `count` names. Most often their first bytes tell two names apart; where they do not, each name is looked for among those before it.
 pub fn names_twice(names: &[u8], count: usize) -> bool
     requires { ⌜ (32 * count ≤ length (now names)) × (count ≤ 512) ⌝ }
     ensures { λ r. ⌜ r ≡ pairBelow count (λ i j. sameBytes (part (i * 32) 32 (now (names .entry))) (part (j * 32) 32 (now (names .entry)))) ⌝ }

@@ -1,54 +1,52 @@
 // The held votes, three tables: of the voters, of the sources and of the targets.
 use crate::members::id_held;
-use crate::numbers::numbers_twice;
 use crate::tree::is_ancestor;
 use model::Place;
+use search::Links;
+use search::link;
+use search::numbers_twice;
 ghost use mathlib.Core.Path.{_≡_};
-ghost use Prim.Native.Nat.{ℕ, _≤_, _<_};
-ghost use lib.Dec.{eqb};
+ghost use Prim.Native.Nat.{_≤_, _<_};
 ghost use lib.ListN.{length, getD};
-ghost use Rattle.model.specs.Lists.{anyBelow, allBelow, pairBelow};
+ghost use Rattle.model.specs.Lists.{allBelow, pairBelow};
 ghost use Rattle.tables.specs.Places.{placeAt, isVote, isSound, Falling};
+ghost use Rattle.search.specs.Chains.{Indexed};
+ghost use Rattle.tables.specs.Keys.{pack, Packed};
 
-// Whether the vote s -> t of the member `id` is among the `count` held. Every vote is looked at, so that the loop has one
-// way out.
-pub fn vote_held(
-    voters: &[u16],
-    sources: [Place; 4096],
-    targets: [Place; 4096],
-    count: usize,
-    id: u16,
-    s: Place,
-    t: Place,
-) -> bool
-    requires { ⌜ (count ≤ length (now voters)) × (count ≤ 4096) ⌝ }
-    ensures { λ r. ⌜ r ≡ anyBelow count (λ k. isVote (now (voters .entry)) sources targets id (s .0) (t .0) k) ⌝ }
+// A vote as one number. Two votes are the same exactly when their numbers are, since a place is of 16 bits, which a caller
+// learns here.
+pub fn key(id: u16, s: Place, t: Place) -> u64
+    ensures { λ r. ⌜ (r ≡ pack id (s .0) (t .0)) × (s .0 < 65536) × (t .0 < 65536) ⌝ }
 {
-    let mut hit = false;
-    let mut k: usize = 0;
-    while k < count {
-        let from = sources[k];
-        let to = targets[k];
-        hit = hit | ((voters[k] == id) & (from.0 == s.0) & (to.0 == t.0));
-        k += 1;
-    }
-    hit
+    id as u64 * 4294967296 + s.0 as u64 * 65536 + t.0 as u64
 }
 
-// Each vote as one number. Two votes are the same exactly when their numbers are.
+// Each vote as one number.
 fn keys(voters: &[u16], sources: [Place; 4096], targets: [Place; 4096], count: usize) -> [u64; 4096]
     requires { ⌜ (count ≤ length (now voters)) × (count ≤ 4096) ⌝ }
-    ensures { λ r. ⌜ ((i j : ℕ) → i < count → j < count → eqb (getD r i 0) (getD r j 0) ≡ isVote (now (voters .entry)) sources targets (getD (now (voters .entry)) j 0) (placeAt sources j) (placeAt targets j) i) ⌝ }
+    ensures { λ r. ⌜ Packed (now (voters .entry)) sources targets count r ⌝ }
 {
     let mut keys = [0u64; 4096];
     let mut k: usize = 0;
     while k < count {
         let s = sources[k];
         let t = targets[k];
-        keys[k] = voters[k] as u64 * 4294967296 + s.0 as u64 * 65536 + t.0 as u64;
+        keys[k] = key(voters[k], s, t);
         k += 1;
     }
     keys
+}
+
+// The votes' numbers in chains, to look for a vote among them.
+pub fn index(voters: &[u16], sources: [Place; 4096], targets: [Place; 4096], count: usize) -> Links
+    requires { ⌜ (count ≤ length (now voters)) × (count ≤ 4096) ⌝ }
+    ensures { λ r. ⌜
+        Indexed count (r .numbers) (r .heads) (r .nexts)
+        × Packed (now (voters .entry)) sources targets count (r .numbers)
+        ⌝ }
+{
+    let keys = keys(voters, sources, targets, count);
+    link(&keys, count)
 }
 
 // Whether some vote is held twice.

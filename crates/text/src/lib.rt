@@ -1,10 +1,8 @@
-// The lines of the report, as bytes written into a lent buffer.
+// Texts and numbers, as bytes written into a lent buffer.
 ghost use Prim.Native.Nat.{_+_, _≤_};
 ghost use lib.ListN.{length};
 ghost use Rattle.model.specs.Report.{decimal};
 ghost use Rattle.text.specs.Put.{Put};
-
-pub mod lines;
 
 // The text, into the buffer from `at` on; answers the offset past it.
 pub fn put(buf: &mut [u8], at: usize, text: &[u8]) -> usize

@@ -57,7 +57,7 @@ pub fn read(w: Witness, log: &[u8], at: usize) -> Reading
             witness: w,
         };
     }
-    reader::read_at(w, log, at)
+    log_reader::read_at(w, log, at)
 }
 
 // Reading the records from an offset on, to the log's end or its stop, or as many as there are rows lent: row 40, once, then

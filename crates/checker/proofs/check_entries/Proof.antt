@@ -15,7 +15,7 @@ use Rattle.model.specs.Limits.{bondLimit}
 use Rattle.state.specs.State.{modelOf}
 use Rattle.state.proofs.Held.{members-held}
 use Rattle.state.proofs.Kept.{count-members, count-votes}
-use Rattle.checker.specs.Check.{FoundIs, PairFound, entryAt}
+use Rattle.entry.specs.Entry.{FoundIs, PairFound, entryAt}
 use Rattle.checker.proofs.Entries.{voters-held, next-entry, entries-none, Inside, inside, bond-small, last-row}
 use Rattle.checker.proofs.check_entries.Statement.{statement}
 use Rattle.checker.proofs.check_entries.Tie as tie

@@ -1,7 +1,7 @@
 -- `checker::check_list` meets its contract: the header's rows, then those of the entries. Assumes nothing.
 use mathlib.Core.Path.{sym, subst, _∙_}
 use borrow.Author.Needs.{needs}
-use Rattle.checker.specs.Check.{HeaderRight, HeaderIs}
+use Rattle.entry.specs.Entry.{HeaderRight, HeaderIs}
 use Rattle.checker.proofs.check_list.Statement.{statement}
 use Rattle.checker.proofs.check_list.Tie as tie
 

@@ -3,7 +3,7 @@ use native.Mathlib.Omega.{arith}
 use mathlib.Core.Path.{_≡_, ap}
 use borrow.Author.Needs.{needs}
 use lib.ListN.{length}
-use Rattle.evidence.specs.Listed.{conductOf}
+use Rattle.conduct.specs.Shown.{conductOf}
 use Rattle.evidence.proofs.Listing.{charge-more, adds-none, adds-one}
 use Rattle.evidence.proofs.add_charge.Statement.{statement}
 use Rattle.evidence.proofs.add_charge.Tie as tie

@@ -6,7 +6,7 @@ use borrow.Author.Needs.{needs}
 use lib.ListN.{length, getD, take}
 use Rattle.evidence.specs.Listed.{chargesOf, chargesAt}
 use Rattle.evidence.proofs.Listing.{listed-none, listed-more, listed-all}
-use Rattle.evidence.proofs.Sorting.{all-first}
+use Rattle.conduct.proofs.Sorting.{all-first}
 use Rattle.evidence.proofs.collect.Statement.{statement}
 use Rattle.evidence.proofs.collect.Tie as tie
 

@@ -2,8 +2,9 @@
 use native.Mathlib.Omega.{arith}
 use borrow.Author.Needs.{needs}
 use lib.ListN.{take}
-use Rattle.evidence.proofs.Listing.{members-fit, listed-charges}
-use Rattle.evidence.proofs.Sorting.{all-wider}
+use Rattle.conduct.proofs.Members.{members-fit}
+use Rattle.evidence.proofs.Listing.{listed-charges}
+use Rattle.conduct.proofs.Sorting.{all-wider}
 use Rattle.evidence.proofs.list_charges.Statement.{statement}
 use Rattle.evidence.proofs.list_charges.Tie as tie
 

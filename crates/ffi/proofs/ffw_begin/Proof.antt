@@ -1,7 +1,7 @@
 -- `ffi::ffw_begin` meets its contract: the header's reading, told in numbers. Assumes nothing.
 use mathlib.Core.Path.{ap, _∙_}
 use Rattle.model.specs.Bytes.{part}
-use Rattle.ffi.specs.Numbers.{refusalOf}
+use Rattle.codes.specs.Numbers.{refusalOf}
 use borrow.Author.Needs.{needs}
 use Rattle.ffi.proofs.ffw_begin.Statement.{statement}
 use Rattle.ffi.proofs.ffw_begin.Tie as tie

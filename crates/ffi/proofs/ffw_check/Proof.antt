@@ -1,7 +1,7 @@
 -- `ffi::ffw_check` meets its contract: the checker's answer, told in numbers. Assumes nothing.
 use mathlib.Core.Path.{refl, sym, ap, _∙_}
 use Rattle.checker.specs.Check.{checkOf}
-use Rattle.ffi.proofs.Told.{tell-refused, tell-value}
+use Rattle.codes.proofs.Told.{tell-refused, tell-value}
 use borrow.Author.Needs.{needs}
 use Rattle.ffi.proofs.ffw_check.Statement.{statement}
 use Rattle.ffi.proofs.ffw_check.Tie as tie

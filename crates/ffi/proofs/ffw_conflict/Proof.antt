@@ -1,8 +1,8 @@
 -- `ffi::ffw_conflict` meets its contract: the conflict answer, told in numbers. Assumes nothing.
 use mathlib.Core.Path.{sym, ap, _∙_}
-use Rattle.ffi.specs.Numbers.{yesNumber}
+use Rattle.codes.specs.Numbers.{yesNumber}
 use Rattle.witness.specs.Answers.{conflictOf}
-use Rattle.ffi.proofs.Told.{byte-of, tell-refused, tell-value}
+use Rattle.codes.proofs.Told.{byte-of, tell-refused, tell-value}
 use borrow.Author.Needs.{needs}
 use Rattle.ffi.proofs.ffw_conflict.Statement.{statement}
 use Rattle.ffi.proofs.ffw_conflict.Tie as tie

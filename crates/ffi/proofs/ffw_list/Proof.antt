@@ -1,7 +1,7 @@
 -- `ffi::ffw_list` meets its contract: the length of our list, told in numbers; the buffer as the call left it. Assumes nothing.
 use mathlib.Core.Path.{refl, sym, ap, _∙_}
 use Rattle.evidence.specs.Listed.{listAnswerOf}
-use Rattle.ffi.proofs.Told.{tell-refused, tell-value}
+use Rattle.codes.proofs.Told.{tell-refused, tell-value}
 use borrow.Author.Needs.{needs}
 use Rattle.ffi.proofs.ffw_list.Statement.{statement}
 use Rattle.ffi.proofs.ffw_list.Tie as tie

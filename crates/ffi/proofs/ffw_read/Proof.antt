@@ -1,6 +1,6 @@
 -- `ffi::ffw_read` meets its contract: the outcome of the reading, told in numbers. Assumes nothing.
 use mathlib.Core.Path.{ap, _∙_}
-use Rattle.ffi.specs.Numbers.{refusalOf, valueOf, toldNumber}
+use Rattle.codes.specs.Numbers.{refusalOf, valueOf, toldNumber}
 use borrow.Author.Needs.{needs}
 use Rattle.ffi.proofs.ffw_read.Statement.{statement}
 use Rattle.ffi.proofs.ffw_read.Tie as tie

@@ -1,7 +1,7 @@
 -- `ffi::ffw_replay` meets its contract: the log's reading, told in numbers. Assumes nothing.
 use mathlib.Core.Path.{ap, _∙_}
 use Rattle.model.specs.Bytes.{part}
-use Rattle.ffi.specs.Numbers.{refusalOf, valueOf, toldNumber}
+use Rattle.codes.specs.Numbers.{refusalOf, valueOf, toldNumber}
 use borrow.Author.Needs.{needs}
 use Rattle.ffi.proofs.ffw_replay.Statement.{statement}
 use Rattle.ffi.proofs.ffw_replay.Tie as tie

@@ -1,8 +1,8 @@
 -- `ffi::ffw_status` meets its contract: the standing, told in numbers. Assumes nothing.
 use mathlib.Core.Path.{refl, sym, ap, _∙_}
-use Rattle.ffi.specs.Numbers.{statusNumber}
+use Rattle.codes.specs.Numbers.{statusNumber}
 use Rattle.witness.specs.Answers.{statusOf}
-use Rattle.ffi.proofs.Told.{tell-refused, tell-value}
+use Rattle.codes.proofs.Told.{tell-refused, tell-value}
 use borrow.Author.Needs.{needs}
 use Rattle.ffi.proofs.ffw_status.Statement.{statement}
 use Rattle.ffi.proofs.ffw_status.Tie as tie

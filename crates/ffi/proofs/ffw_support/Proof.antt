@@ -2,7 +2,7 @@
 use mathlib.Core.Path.{sym, ap, _∙_}
 use Rattle.finality.specs.Answers.{backingOf}
 use Rattle.witness.specs.Answers.{supportOf}
-use Rattle.ffi.proofs.Told.{byte-of, back-refused, back-value}
+use Rattle.codes.proofs.Told.{byte-of, back-refused, back-value}
 use borrow.Author.Needs.{needs}
 use Rattle.ffi.proofs.ffw_support.Statement.{statement}
 use Rattle.ffi.proofs.ffw_support.Tie as tie

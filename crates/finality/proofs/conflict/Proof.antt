@@ -2,10 +2,10 @@
 use Prim.Native.Nat.{_≤_}
 use native.Mathlib.Omega.{arith}
 use borrow.Author.Needs.{needs}
-use Rattle.tables.proofs.Chains.{last-le}
-use Rattle.finality.specs.Answers.{isFinal}
+use Rattle.search.proofs.Chains.{last-le}
+use Rattle.standing.specs.Answers.{isFinal}
 use Rattle.finality.proofs.Answered.{falling, none-conflict, some-conflict}
-use Rattle.finality.proofs.Backed.{few-places}
+use Rattle.tally.proofs.Backed.{few-places}
 use Rattle.finality.proofs.conflict.Statement.{statement}
 use Rattle.finality.proofs.conflict.Tie as tie
 

@@ -3,7 +3,7 @@ use native.Mathlib.Omega.{arith}
 use borrow.Author.Needs.{needs}
 use Rattle.state.specs.State.{modelOf}
 use Rattle.state.proofs.Kept.{count-checkpoints}
-use Rattle.finality.proofs.Backed.{few-places}
+use Rattle.tally.proofs.Backed.{few-places}
 use Rattle.finality.proofs.status.Statement.{statement}
 use Rattle.finality.proofs.status.Tie as tie
 

@@ -4,8 +4,8 @@ use native.Mathlib.Omega.{arith}
 use mathlib.Core.Path.{sym, subst}
 use borrow.Author.Needs.{needs}
 use Rattle.model.specs.Limits.{bondLimit}
-use Rattle.finality.proofs.Ready.{ready-few, ready-bonds, ready-total, ready-walk, ready-support}
-use Rattle.finality.proofs.Weights.{weight-bound}
+use Rattle.tally.proofs.Ready.{ready-few, ready-bonds, ready-total, ready-walk, ready-support}
+use Rattle.tally.proofs.Weights.{weight-bound}
 use Rattle.finality.proofs.support.Statement.{statement}
 use Rattle.finality.proofs.support.Tie as tie
 

@@ -1,16 +1,12 @@
+-- `state::empty` meets its contract: the name is the 32 bytes of the log at 5. Assumes nothing.
 use borrow.Author.Needs.{needs}
 use Rattle.state.proofs.Stored.{empty-is}
 use Rattle.state.proofs.empty.Statement.{statement}
 use Rattle.state.proofs.empty.Tie as tie
-use Rattle.state.proofs.empty.Reads as reads
-use Rattle.state.proofs.empty.Lts as lts
-use Rattle.state.proofs.copy_name.Reads as copy-name-reads
 
--- src/lib.rt:247:5
 copy-name-requires : tie.Need-copy-name-requires
 copy-name-requires c κs = search needs
 
--- src/lib.rt:242:1
 returns : tie.Need-returns
 returns c = empty-is (c .before .before .before .args .log .now) (c .copy-name .ensures)
 

@@ -4,7 +4,7 @@ use native.Mathlib.Omega.{arith}
 use mathlib.Core.Path.{_≡_, _∙_}
 use borrow.Author.Needs.{needs}
 use lib.ListN.{length}
-use Rattle.finality.proofs.Backed.{bonds-good}
+use Rattle.tally.proofs.Backed.{bonds-good}
 use Rattle.text.proofs.Putting.{spelled, next, kept}
 use Rattle.summary.proofs.Held.{places-fit, members-fit}
 use Rattle.summary.proofs.Lines.{summary-is}

@@ -5,7 +5,7 @@ use borrow.Author.Tests.{eq-eqb, ne-eqb}
 use lib.Dec.{eqb}
 use lib.ListN.{take}
 use lib.Seq.{length-take-le}
-use Rattle.tables.proofs.Search.{Passed, passed-none, passed-more, found-here, found-none}
+use Rattle.search.proofs.Search.{Passed, passed-none, passed-more, found-here, found-none}
 use Rattle.tables.proofs.Tables.{ids-at}
 use Rattle.tables.proofs.find_id.Statement.{statement}
 use Rattle.tables.proofs.find_id.Tie as tie

@@ -6,9 +6,9 @@ use native.Mathlib.Nat.{le-antisymm}
 use mathlib.Core.Path.{_≡_, sym, _∙_}
 use mathlib.Core.Logic.{⊎-elim}
 use mathlib.Core.Bool.{true, false}
-use Rattle.tables.specs.Chains.{lastBelow}
-use Rattle.tables.proofs.Chains.{last-next, last-none}
-use Rattle.finality.specs.Answers.{isFinal}
+use Rattle.search.specs.Chains.{lastBelow}
+use Rattle.search.proofs.Chains.{last-next, last-none}
+use Rattle.standing.specs.Answers.{isFinal}
 use Rattle.finality.proofs.finals.last_final.Statement.{statement}
 use Rattle.finality.proofs.finals.last_final.Tie as tie
 

@@ -11,9 +11,9 @@ use Rattle.model.specs.Lists.{anyBelow}
 use Rattle.model.specs.Tree.{ancestor?}
 use Rattle.model.proofs.Lists.{found-below, both}
 use Rattle.tables.specs.Places.{treeOf}
-use Rattle.tables.proofs.Below.{any-none, any-more}
-use Rattle.finality.specs.declared.Analysis.{Analysis}
-use Rattle.finality.specs.Answers.{isFinal}
+use Rattle.search.proofs.Below.{any-none, any-more}
+use Rattle.standing.specs.declared.Analysis.{Analysis}
+use Rattle.standing.specs.Answers.{isFinal}
 use Rattle.finality.proofs.finals.strays.Statement.{statement}
 use Rattle.finality.proofs.finals.strays.Tie as tie
 

@@ -2,8 +2,8 @@
 use mathlib.Core.Path.{sym, ap}
 use borrow.Author.Needs.{needs}
 use Rattle.model.specs.Evidence.{broken?}
-use Rattle.evidence.specs.declared.Conduct.{Conduct}
-use Rattle.evidence.specs.Listed.{conductOf}
+use Rattle.conduct.specs.declared.Conduct.{Conduct}
+use Rattle.conduct.specs.Shown.{conductOf}
 use Rattle.summary.proofs.members.is_broken.Statement.{statement}
 use Rattle.summary.proofs.members.is_broken.Tie as tie
 

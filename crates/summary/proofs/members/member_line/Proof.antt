@@ -2,8 +2,8 @@
 use mathlib.Core.Path.{sym, ap}
 use borrow.Author.Needs.{needs}
 use Rattle.model.specs.Report.{memberText}
-use Rattle.evidence.specs.declared.Conduct.{Conduct}
-use Rattle.evidence.specs.Listed.{conductOf}
+use Rattle.conduct.specs.declared.Conduct.{Conduct}
+use Rattle.conduct.specs.Shown.{conductOf}
 use Rattle.text.proofs.Putting.{spelled}
 use Rattle.summary.proofs.members.member_line.Statement.{statement}
 use Rattle.summary.proofs.members.member_line.Tie as tie

@@ -6,7 +6,7 @@ use mathlib.Core.Path.{_≡_, ap, _∙_}
 use mathlib.Core.List.{flatMap}
 use borrow.Author.Needs.{needs}
 use lib.ListN.{getD, length, take}
-use Rattle.evidence.proofs.Sorting.{all-first}
+use Rattle.conduct.proofs.Sorting.{all-first}
 use Rattle.text.specs.Put.{Put}
 use Rattle.text.proofs.Putting.{spelled, kept}
 use Rattle.summary.proofs.Held.{members-fit}

@@ -8,7 +8,7 @@ use lib.Dec.{ltb, leb}
 use lib.ListN.{getD}
 use Rattle.model.specs.Limits.{bondLimit}
 use Rattle.model.specs.Lists.{allBelow}
-use Rattle.tables.proofs.Below.{all-none, all-more}
+use Rattle.search.proofs.Below.{all-none, all-more}
 use Rattle.tables.proofs.members.bonds_in_range.Statement.{statement}
 use Rattle.tables.proofs.members.bonds_in_range.Tie as tie
 

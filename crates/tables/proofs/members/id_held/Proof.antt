@@ -8,7 +8,7 @@ use mathlib.Core.Bool.{false}
 use lib.Dec.{eqb}
 use lib.ListN.{getD}
 use Rattle.model.specs.Lists.{anyBelow}
-use Rattle.tables.proofs.Below.{any-none, any-more}
+use Rattle.search.proofs.Below.{any-none, any-more}
 use Rattle.tables.proofs.members.id_held.Statement.{statement}
 use Rattle.tables.proofs.members.id_held.Tie as tie
 

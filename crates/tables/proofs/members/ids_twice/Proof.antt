@@ -7,7 +7,7 @@ use mathlib.Core.Path.{_≡_}
 use lib.Dec.{eqb}
 use lib.ListN.{getD}
 use Rattle.model.specs.Lists.{pairBelow}
-use Rattle.tables.proofs.Below.{pair-none, pair-more}
+use Rattle.search.proofs.Below.{pair-none, pair-more}
 use Rattle.tables.proofs.members.ids_twice.Statement.{statement}
 use Rattle.tables.proofs.members.ids_twice.Tie as tie
 

@@ -3,7 +3,7 @@ use Prim.Native.Nat.{ℕ, _*_, _-_, _≤_}
 use native.Mathlib.Omega.{arith}
 use lib.ListN.{length-replicate}
 use Rattle.model.specs.Bytes.{field}
-use Rattle.tables.proofs.Filled.{Filled, filled-none, filled-more}
+use Rattle.search.proofs.Filled.{Filled, filled-none, filled-more}
 use Rattle.tables.proofs.tree.first_bytes.Statement.{statement}
 use Rattle.tables.proofs.tree.first_bytes.Tie as tie
 

@@ -8,7 +8,7 @@ use borrow.Author.Tests.{not-true}
 use mathlib.Core.Path.{_≡_, sym, _∙_}
 use Rattle.model.specs.Bytes.{part}
 use Rattle.model.specs.Lists.{pairBelow, sameBytes}
-use Rattle.tables.proofs.Below.{pair-none, pair-more, found-among}
+use Rattle.search.proofs.Below.{pair-none, pair-more, found-among}
 use Rattle.tables.proofs.Firsts.{none-twice}
 use Rattle.tables.proofs.Tables.{rows-all}
 use Rattle.tables.proofs.tree.names_twice.Statement.{statement}

@@ -6,7 +6,7 @@ use mathlib.Core.Path.{_≡_, sym}
 use mathlib.Core.Bool.{true}
 use Rattle.model.specs.Lists.{allBelow}
 use Rattle.tables.specs.Places.{isStep}
-use Rattle.tables.proofs.Below.{all-more, all-fails, all-fewer}
+use Rattle.search.proofs.Below.{all-more, all-fails, all-fewer}
 use Rattle.tables.proofs.Steps.{not-smaller, not-higher, one-higher, root-sound}
 use Rattle.tables.proofs.tree.tree_sound.Statement.{statement}
 use Rattle.tables.proofs.tree.tree_sound.Tie as tie

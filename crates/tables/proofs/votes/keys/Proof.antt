@@ -1,8 +1,10 @@
 -- `tables::votes::keys` meets its contract. The loop's invariant: the votes passed are numbers. Assumes nothing.
-use Prim.Native.Nat.{_<_, _≤_, _-_}
+use Prim.Native.Nat.{_≤_, _-_}
 use native.Mathlib.Omega.{arith}
-use lib.ListN.{getD}
-use Rattle.tables.proofs.Keys.{Packed, packed-none, packed-more, packed-same}
+use native.Mathlib.Nat.{le-antisymm}
+use borrow.Author.Needs.{needs}
+use Rattle.tables.specs.Keys.{Packed}
+use Rattle.tables.proofs.Keys.{packed-none, packed-more}
 use Rattle.tables.proofs.votes.keys.Statement.{statement}
 use Rattle.tables.proofs.votes.keys.Tie as tie
 
@@ -11,10 +13,6 @@ Inv-loop voters count sources targets keys₀ k₀ keys k = (k ≤ count) × Pac
 
 abbrev μ-loop : tie.MeasureT-loop
 μ-loop voters count sources targets keys₀ k₀ keys k = count - k
-
--- a voter is a number of 16 bits
-narrow : (c : tie.After-shared-slice-known Inv-loop μ-loop) → getD (c .before .before .before .before .before .args .voters .now) (c .before .before .before .before .loop .k) 0 < 65536
-narrow c = c .shared-slice-known .given (c .before .before .before .before .loop .k) .fits
 
 loop-holds : tie.Need-loop-holds Inv-loop μ-loop
 loop-holds c = (omega arith, packed-none _ _ _)
@@ -31,35 +29,17 @@ mul-t c = omega arith
 array-copy-out-t : tie.Need-array-copy-out-t Inv-loop μ-loop
 array-copy-out-t c = omega arith
 
+mul-key : tie.Need-mul-key Inv-loop μ-loop
+mul-key c = omega arith
+
+shared-slice-read-key : tie.Need-shared-slice-read-key Inv-loop μ-loop
+shared-slice-read-key c = omega arith
+
+key-requires : tie.Need-key-requires Inv-loop μ-loop
+key-requires c κs = search needs
+
 mul-keys : tie.Need-mul-keys Inv-loop μ-loop
 mul-keys c = omega arith
-
-shared-slice-read-keys : tie.Need-shared-slice-read-keys Inv-loop μ-loop
-shared-slice-read-keys c = omega arith
-
-cast-keys : tie.Need-cast-keys Inv-loop μ-loop
-cast-keys c = omega (arith, narrow c)
-
-mul-keys-2 : tie.Need-mul-keys-2 Inv-loop μ-loop
-mul-keys-2 c = omega (arith, narrow c)
-
-cast-keys-2 : tie.Need-cast-keys-2 Inv-loop μ-loop
-cast-keys-2 c = omega arith
-
-mul-keys-3 : tie.Need-mul-keys-3 Inv-loop μ-loop
-mul-keys-3 c = omega arith
-
-add-keys : tie.Need-add-keys Inv-loop μ-loop
-add-keys c = omega (arith, narrow (c .before))
-
-cast-keys-3 : tie.Need-cast-keys-3 Inv-loop μ-loop
-cast-keys-3 c = omega arith
-
-add-keys-2 : tie.Need-add-keys-2 Inv-loop μ-loop
-add-keys-2 c = omega (arith, narrow (c .before .before))
-
-mul-keys-4 : tie.Need-mul-keys-4 Inv-loop μ-loop
-mul-keys-4 c = omega arith
 
 array-write-keys : tie.Need-array-write-keys Inv-loop μ-loop
 array-write-keys c = omega arith
@@ -72,11 +52,12 @@ loop-less c = omega arith
 
 loop-again : tie.Need-loop-again Inv-loop μ-loop
 loop-again c =
-    let at = c .before .before .before .before .before .before .loop in
-    (omega arith, packed-more _ _ _ (at .keys) (at .k) (omega arith) (omega arith) (omega arith) (at .inv .1))
+    let at = c .before .before .before .before .before .loop in
+    let key = c .key .ensures in
+    (omega arith, packed-more _ _ _ (at .keys) (at .k) (omega arith) (key .1) (key .2) (key .0) (at .inv .1))
 
 returns : tie.Need-returns Inv-loop μ-loop
-returns c i j hi hj = packed-same _ _ _ (c .before .loop .inv .1) i j (omega arith) (omega arith)
+returns c = rw (le-antisymm (c .before .loop .inv .0) (c .loop-test .left)) at (c .before .loop .inv .1)
 
 pub keys-spec : {M : Type 1} → statement M
 keys-spec =
@@ -89,16 +70,10 @@ keys-spec =
     array-copy-out-s
     mul-t
     array-copy-out-t
+    mul-key
+    shared-slice-read-key
+    key-requires
     mul-keys
-    shared-slice-read-keys
-    cast-keys
-    mul-keys-2
-    cast-keys-2
-    mul-keys-3
-    add-keys
-    cast-keys-3
-    add-keys-2
-    mul-keys-4
     array-write-keys
     add-k
     loop-less

@@ -7,7 +7,7 @@ use mathlib.Core.Path.{_≡_}
 use lib.ListN.{getD}
 use Rattle.model.specs.Lists.{allBelow}
 use Rattle.tables.specs.Places.{placeAt, isSound}
-use Rattle.tables.proofs.Below.{all-none, all-more}
+use Rattle.search.proofs.Below.{all-none, all-more}
 use Rattle.tables.proofs.votes.votes_sound.Statement.{statement}
 use Rattle.tables.proofs.votes.votes_sound.Tie as tie
 

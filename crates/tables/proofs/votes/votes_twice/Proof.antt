@@ -2,7 +2,8 @@
 use native.Mathlib.Omega.{arith}
 use borrow.Author.Needs.{needs}
 use mathlib.Core.Path.{_∙_}
-use Rattle.tables.proofs.Pointwise.{pair-same}
+use Rattle.tables.proofs.Keys.{packed-same}
+use Rattle.search.proofs.Pointwise.{pair-same}
 use Rattle.tables.proofs.votes.votes_twice.Statement.{statement}
 use Rattle.tables.proofs.votes.votes_twice.Tie as tie
 
@@ -16,7 +17,7 @@ numbers-twice-requires : tie.Need-numbers-twice-requires
 numbers-twice-requires c κs = search needs
 
 returns : tie.Need-returns
-returns c = c .numbers-twice .ensures ∙ pair-same _ _ _ (λ i j h l. c .before .before .keys .ensures i j (omega arith) l)
+returns c = c .numbers-twice .ensures ∙ pair-same _ _ _ (λ i j h l. packed-same _ _ _ (c .before .before .keys .ensures) i j (omega arith) l)
 
 pub votes-twice-spec : {M : Type 1} → statement M
 votes-twice-spec =

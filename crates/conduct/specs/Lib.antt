@@ -1,0 +1,3 @@
+pub mod Shown
+pub mod Pairs
+pub mod Held

@@ -1,0 +1,2 @@
+-- What the rows decide, and how the code says it.
+pub mod Decision

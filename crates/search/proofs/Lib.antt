@@ -1,0 +1,5 @@
+pub mod Search
+pub mod Below
+pub mod Pointwise
+pub mod Filled
+pub mod Chains

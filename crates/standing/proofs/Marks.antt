@@ -1,0 +1,118 @@
+-- One pass over the places: which are justified, and which a supermajority link joins to a direct child.
+use Prim.Native.Nat.{ℕ, _+_, _<_, _≤_}
+use native.Mathlib.Omega.{arith}
+use native.Mathlib.Numerals.{add-one}
+use mathlib.Core.Path.{_≡_, refl, sym, ap, ap₂, _∙_, subst}
+use mathlib.Core.List.{List}
+use mathlib.Core.Bool.{Bool, true, false, _&&_, _||_, or-false}
+use borrow.Author.Tests.{eq-eqb, eqb-true, eqb-false, lt-ltb}
+use lib.Dec.{eqb}
+use lib.ListN.{length, getD, set, replicate, length-set, length-replicate, getD-replicate}
+use lib.Seq.{getD-set-same, getD-set-other}
+use Rattle.model.specs.Limits.{rootHeight}
+use Rattle.model.specs.Lists.{anyBelow}
+use Rattle.model.specs.Model.{Model, parentOf}
+use Rattle.model.specs.Support.{link?}
+use Rattle.model.specs.Tree.{child?}
+use Rattle.model.specs.Finality.{root, link, Justified, justified?}
+use Rattle.model.specs.WellFormed.{WellFormed}
+use Rattle.model.proofs.Lists.{both, and-left, and-right, Below, below-found, found-below}
+use Rattle.model.proofs.Tree.{ancestor-later}
+use Rattle.model.proofs.Support.{link-climbs}
+use Rattle.model.proofs.Finality.{justified-true, true-justified}
+use Rattle.search.proofs.Below.{same-test}
+use Rattle.search.proofs.Filled.{Filled, filled-more}
+use Rattle.search.proofs.Pointwise.{any-same}
+use Rattle.standing.specs.Answers.{IsAnalysis}
+
+-- the places below t are marked: each as justified or not, and each as joined to a direct child below t or not
+pub record Marked (m : Model) (justified finalizing : List Bool) (t : ℕ) : Type 0 where
+  pub marks : Filled false 512 (justified? m) justified t
+  pub long : length finalizing ≡ 512
+  pub finals : (p : ℕ) → p < 512 → getD finalizing p false ≡ anyBelow t (λ c. child? (m .checkpoints) p c && link? m p c)
+
+module _ (m : Model) (good : WellFormed rootHeight m) where
+  -- a place other than the root is justified by a link from a justified place below it
+  from-below : (t : ℕ) → 0 < t → justified? m t ≡ anyBelow t (λ s. justified? m s && link? m s t)
+  from-below t h = same-test (λ e. there (justified-true rootHeight m good t e) h) back
+    where
+      there : {t : ℕ} → Justified m t → 0 < t → anyBelow t (λ s. justified? m s && link? m s t) ≡ true
+      there root h = absurd (omega arith)
+      there (link {s = s} {t = t} j l) h =
+          found-below t (λ k. justified? m k && link? m k t) s (ancestor-later rootHeight (m .checkpoints) (good .tree) (link-climbs rootHeight m good s t l))
+          (both (true-justified rootHeight m good s j) l)
+
+      from : Below t (λ s. justified? m s && link? m s t) → justified? m t ≡ true
+      from b =
+          true-justified rootHeight m good t
+          (link
+          (justified-true rootHeight m good (b .at) (and-left (justified? m (b .at)) (link? m (b .at) t) (b .passes)))
+          (and-right (justified? m (b .at)) (link? m (b .at) t) (b .passes)))
+
+      back : anyBelow t (λ s. justified? m s && link? m s t) ≡ true → justified? m t ≡ true
+      back e = from (below-found t (λ s. justified? m s && link? m s t) e)
+
+  pub marked-root : Marked m (set (replicate 512 false) 0 true) (replicate 512 false) 1
+  unfolding anyBelow child?
+  marked-root =
+      record {
+        marks = record {
+          long = length-set (replicate 512 false) 0 true ∙ length-replicate 512 false;
+          each = λ i h. subst (λ (k : ℕ). getD (set (replicate 512 false) 0 true) k false ≡ justified? m k) (let e : 0 ≡ i = omega arith in e) (sym (true-justified rootHeight m good 0 root));
+        };
+        long = length-replicate 512 false;
+        finals = λ p h. getD-replicate 512 p false false h;
+      }
+
+  -- a place's test for a direct child is that it is the parent
+  held-child : (p t : ℕ) → 0 < t → t < length (m .checkpoints) → child? (m .checkpoints) p t ≡ eqb (parentOf (m .checkpoints) t) p
+  unfolding child?
+  held-child p t h l = rw (lt-ltb 0 t h, lt-ltb t (length (m .checkpoints)) l)
+
+  pub marked-more : (justified finalizing : List Bool) (t parent : ℕ) (L : ℕ → Bool) {reached hit : Bool}
+      → 0 < t
+      → t < length (m .checkpoints)
+      → t < 512
+      → parent ≡ parentOf (m .checkpoints) t
+      → parent < 512
+      → ((s : ℕ) → s < 512 → L s ≡ link? m s t)
+      → reached ≡ anyBelow t (λ s. getD justified s false && L s)
+      → hit ≡ L parent
+      → Marked m justified finalizing t
+      → Marked m (set justified t reached) (set finalizing parent (getD finalizing parent false || hit)) (t + 1)
+  marked-more justified finalizing t parent L {reached} {hit} h l few is inside links r s so =
+      record {
+        marks = filled-more false 512 (justified? m) justified t reached few
+            (r
+            ∙ any-same t (λ s. getD justified s false && L s) (λ s. justified? m s && link? m s t) (λ s b. ap₂ _&&_ (so .marks .each s b) (links s (omega arith)))
+            ∙ sym (from-below t h))
+            (so .marks);
+        long = length-set finalizing parent (getD finalizing parent false || hit) ∙ so .long;
+        finals = λ p b. more p b (eqb parent p) refl;
+      }
+    where
+      F : ℕ → ℕ → Bool
+      F p c = child? (m .checkpoints) p c && link? m p c
+
+      next : (p : ℕ) → anyBelow (t + 1) (F p) ≡ (anyBelow t (F p) || (eqb parent p && link? m p t))
+      next p =
+          unfold anyBelow in ap (λ (n : ℕ). anyBelow n (F p)) (add-one t)
+          ∙ ap (λ (x : Bool). anyBelow t (F p) || (x && link? m p t)) (held-child p t h l ∙ ap (λ (q : ℕ). eqb q p) (sym is))
+
+      more : (p : ℕ) → p < 512 → (b : Bool) → eqb parent p ≡ b → getD (set finalizing parent (getD finalizing parent false || hit)) p false ≡ anyBelow (t + 1) (F p)
+      more p w true e =
+          subst (λ (q : ℕ). getD (set finalizing parent (getD finalizing parent false || hit)) q false ≡ anyBelow (t + 1) (F q)) (eqb-true parent p e)
+          (getD-set-same finalizing parent (getD finalizing parent false || hit) false (omega (arith, so .long))
+          ∙ ap₂ _||_ (so .finals parent inside) (s ∙ links parent inside)
+          ∙ sym (next parent ∙ ap (λ (x : Bool). anyBelow t (F parent) || (x && link? m parent t)) (eq-eqb parent parent refl)))
+      more p w false e =
+          getD-set-other finalizing parent p (getD finalizing parent false || hit) false (λ q. eqb-false parent p e (sym q))
+          ∙ so .finals p w
+          ∙ sym (next p ∙ ap (λ (x : Bool). anyBelow t (F p) || (x && link? m p t)) e ∙ or-false (anyBelow t (F p)))
+
+  pub marked-all : {justified finalizing : List Bool} {n t : ℕ} → length (m .checkpoints) ≡ n → n ≤ 512 → n ≤ t → t ≤ n → Marked m justified finalizing t → IsAnalysis m (record { justified = justified; finalizing = finalizing })
+  marked-all {justified} {finalizing} {n} {t} e few low high so =
+      record {
+        justified = λ p h. so .marks .each p (omega arith);
+        finalizing = λ p h. so .finals p (omega arith) ∙ ap (λ (k : ℕ). anyBelow k (λ c. child? (m .checkpoints) p c && link? m p c)) (let q : t ≡ length (m .checkpoints) = omega arith in q);
+      }

@@ -1,0 +1,72 @@
+// Which places of a sound state are justified, which of them have a supermajority link to a direct child, and so the standing
+// of each.
+use model::Place;
+use model::Status;
+use state::Witness;
+use tally::links;
+use tally::voters;
+use tally::votes;
+ghost use mathlib.Core.Path.{_≡_};
+ghost use Prim.Native.Nat.{_<_};
+ghost use lib.ListN.{length};
+ghost use Rattle.model.specs.Finality.{status};
+ghost use Rattle.model.specs.Model.{Model};
+ghost use Rattle.state.specs.State.{modelOf};
+ghost use Rattle.tally.specs.Ready.{Sound};
+ghost use Rattle.standing.specs.Answers.{IsAnalysis};
+
+// For each place whether it is justified, and whether a supermajority link leads from it to a direct child.
+pub struct Analysis {
+    pub justified: [bool; 512],
+    pub finalizing: [bool; 512],
+}
+
+// One pass over the places. Places below t are marked when the links to t are counted, for a source's place is below its
+// target's.
+pub fn statuses(w: Witness) -> Analysis
+    requires { ⌜ Sound w ⌝ }
+    ensures { λ r. ⌜ IsAnalysis (modelOf w) r ⌝ }
+{
+    let members = w.member_count;
+    let places = w.checkpoint_count;
+    let sources = w.sources;
+    let parents = w.parents;
+    let b = votes::prepare(w);
+    let who = b.who;
+    let head = b.head;
+    let next = b.next;
+    let total = b.total;
+    let mut justified = [false; 512];
+    let mut finalizing = [false; 512];
+    justified[0] = true;
+    let mut t: usize = 1;
+    while t < places {
+        let tally = votes::gather(&who, sources, &next, head[t]);
+        let reached = links::reaches(tally, &justified, t, &w.bonds, members, total);
+        justified[t] = reached;
+        let parent = parents[t];
+        let p = parent.0 as usize;
+        let v = tally[p];
+        finalizing[p] = finalizing[p] | voters::carries(v, &w.bonds, members, total);
+        t += 1;
+    }
+    Analysis {
+        justified,
+        finalizing,
+    }
+}
+
+// The standing of a held place, by the analysis of its model.
+pub fn status_of(a: Analysis, p: Place) -> Status
+    requires { ⌜ p .0 < 512 ⌝ }
+    ensures { λ r. ⌜ ((m : Model) → IsAnalysis m a → p .0 < length (m .checkpoints) → r ≡ status m (p .0)) ⌝ }
+{
+    let at = p.0 as usize;
+    if a.justified[at] {
+        if a.finalizing[at] {
+            return Status::Final;
+        }
+        return Status::Justified;
+    }
+    Status::Plain
+}

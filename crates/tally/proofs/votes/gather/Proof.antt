@@ -1,0 +1,113 @@
+-- `tally::votes::gather` meets its contract. The loop's invariant: what the tally has and what the votes left say make
+-- what all votes say. Assumes nothing.
+use Prim.Native.Nat.{_<_, _-_}
+use native.Mathlib.Omega.{arith}
+use lib.ListN.{getD}
+use Rattle.tables.specs.Places.{placeAt}
+use Rattle.tally.proofs.Chains.{Gathered, gathered-none, gathered-more, gathered-all}
+use Rattle.tally.proofs.votes.gather.Statement.{statement}
+use Rattle.tally.proofs.votes.gather.Tie as tie
+
+abbrev Inv-loop : tie.InvT-loop
+Inv-loop who next from sources tally₀ at₀ tally at = Gathered who sources next from tally at
+
+abbrev μ-loop : tie.MeasureT-loop
+μ-loop who next from sources tally₀ at₀ tally at = at
+
+-- the vote's source is a held place, and its voter a held member
+held : (c : tie.After-struct-known Inv-loop μ-loop) → placeAt (c .before .before .before .before .before .before .args .t2) (c .before .before .before .loop .at - 1) < 512
+held c =
+    let at = c .before .before .before in
+    at .before .before .before .pre .source (at .loop .at - 1) (omega arith)
+
+member : (c : tie.After-shared-slice-known3 Inv-loop μ-loop) → getD (c .before .before .before .before .before .before .before .before .args .who .now) (c .before .before .before .before .before .loop .at - 1) 0 < 128
+member c =
+    let at = c .before .before .before .before .before in
+    at .before .before .before .pre .member (at .loop .at - 1) (omega arith)
+
+loop-holds : tie.Need-loop-holds Inv-loop μ-loop
+loop-holds c = gathered-none _ _ _ _
+
+sub-k : tie.Need-sub-k Inv-loop μ-loop
+sub-k c = omega arith
+
+cast-k : tie.Need-cast-k Inv-loop μ-loop
+cast-k c = omega arith
+
+mul-s : tie.Need-mul-s Inv-loop μ-loop
+mul-s c = omega arith
+
+array-copy-out-s : tie.Need-array-copy-out-s Inv-loop μ-loop
+array-copy-out-s c = omega arith
+
+cast-source : tie.Need-cast-source Inv-loop μ-loop
+cast-source c = omega arith
+
+mul-v : tie.Need-mul-v Inv-loop μ-loop
+mul-v c = omega arith
+
+array-copy-out-v : tie.Need-array-copy-out-v Inv-loop μ-loop
+array-copy-out-v c = held c
+
+mul-insert : tie.Need-mul-insert Inv-loop μ-loop
+mul-insert c = omega arith
+
+shared-slice-read-insert : tie.Need-shared-slice-read-insert Inv-loop μ-loop
+shared-slice-read-insert c = omega arith
+
+cast-insert : tie.Need-cast-insert Inv-loop μ-loop
+cast-insert c = omega (arith, member c)
+
+insert-requires : tie.Need-insert-requires Inv-loop μ-loop
+insert-requires c κs = member c
+
+mul-tally : tie.Need-mul-tally Inv-loop μ-loop
+mul-tally c = omega arith
+
+array-set-from-tally : tie.Need-array-set-from-tally Inv-loop μ-loop
+array-set-from-tally c = held (c .before .before .before)
+
+mul-at : tie.Need-mul-at Inv-loop μ-loop
+mul-at c = omega arith
+
+shared-slice-read-at : tie.Need-shared-slice-read-at Inv-loop μ-loop
+shared-slice-read-at c = omega arith
+
+loop-less : tie.Need-loop-less Inv-loop μ-loop
+loop-less c =
+    let at = c .before .before .before .before .before .before .before in
+    omega (arith, at .before .before .before .pre .earlier (at .loop .at - 1) (omega arith))
+
+loop-again : tie.Need-loop-again Inv-loop μ-loop
+loop-again c =
+    let at = c .before .before .before .before .before .before .before in
+    gathered-more _ _ _ _ (at .loop .at) (at .loop .tally) (c .before .insert .result) (c .before .before .before .before .before .before .loop-test .taken) (at .before .before .before .pre) (at .loop .inv) (c .before .insert .ensures)
+
+returns : tie.Need-returns Inv-loop μ-loop
+returns c = gathered-all _ _ _ _ (c .loop-test .left) (c .before .loop .inv)
+
+pub gather-spec : {M : Type 1} → statement M
+gather-spec =
+    tie.close
+    (tie.spec
+    Inv-loop
+    μ-loop
+    loop-holds
+    sub-k
+    cast-k
+    mul-s
+    array-copy-out-s
+    cast-source
+    mul-v
+    array-copy-out-v
+    mul-insert
+    shared-slice-read-insert
+    cast-insert
+    insert-requires
+    mul-tally
+    array-set-from-tally
+    mul-at
+    shared-slice-read-at
+    loop-less
+    loop-again
+    returns)

@@ -1,0 +1,35 @@
+-- The votes in chains by target, and the voters of the links to one target.
+use Prim.Native.Nat.{ℕ, _<_, _≤_}
+use mathlib.Core.List.{List}
+use mathlib.Core.Bool.{Bool, _&&_}
+use lib.Dec.{eqb}
+use lib.ListN.{length, getD}
+use Rattle.model.specs.declared.Place.{Place}
+use Rattle.tables.specs.Places.{placeAt}
+use Rattle.search.specs.Chains.{Bucketed}
+use Rattle.tally.specs.declared.voters.Voters.{Voters}
+
+-- no voter
+abbrev pub nobody : Voters
+nobody = record { lo = 0; hi = 0 }
+
+-- vote k has the target t
+abbrev pub aims : List Place → ℕ → ℕ → Bool
+aims targets t k = eqb (placeAt targets k) t
+
+-- vote k is of the member at place i, and has the source s
+abbrev pub casts : List ℕ → List Place → ℕ → ℕ → ℕ → Bool
+casts who sources s i k = eqb (getD who k 0) i && eqb (placeAt sources k) s
+
+-- the first `count` votes are in chains by target
+abbrev pub ByTarget : List Place → ℕ → List ℕ → List ℕ → Type 0
+ByTarget targets count head next = Bucketed (λ k. placeAt targets k) 512 count head next
+
+-- every vote below n is of a held member, from a held place, and its chain goes on with an earlier one
+pub record Walkable (who : List ℕ) (sources : List Place) (next : List ℕ) (n : ℕ) : Type 0 where
+  pub fit : n ≤ 4096
+  pub who-long : n ≤ length who
+  pub next-long : n ≤ length next
+  pub member : (k : ℕ) → k < n → getD who k 0 < 128
+  pub source : (k : ℕ) → k < n → placeAt sources k < 512
+  pub earlier : (k : ℕ) → k < n → getD next k 0 ≤ k

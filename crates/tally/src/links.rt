@@ -1,0 +1,36 @@
+// The links to one target.
+use crate::voters::Voters;
+use crate::voters::carries;
+ghost use mathlib.Core.Path.{_≡_};
+ghost use mathlib.Core.Bool.{false, _&&_};
+ghost use Prim.Native.Nat.{_*_, _≤_};
+ghost use lib.ListN.{length, getD};
+ghost use Rattle.model.specs.Limits.{bondLimit};
+ghost use Rattle.model.specs.Lists.{anyBelow};
+ghost use Rattle.tally.specs.Chains.{nobody};
+ghost use Rattle.tally.specs.Weights.{Bonds, carried};
+
+// Whether a supermajority link from a justified place below t leads to t.
+pub fn reaches<'a>(
+    tally: [Voters; 512],
+    justified: &'a [bool],
+    t: usize,
+    bonds: &'a [u64],
+    members: usize,
+    total: u64,
+) -> bool
+    requires { ⌜ (t ≤ 512) × (t ≤ length (now justified)) × Bonds (now bonds) members × (total ≤ 128 * bondLimit) ⌝ }
+    ensures { λ r. ⌜ r ≡ anyBelow t (λ s. getD (now (justified .entry)) s false && carried (now (bonds .entry)) members total (getD tally s nobody)) ⌝ }
+{
+    let mut s: usize = 0;
+    while s < t {
+        if justified[s] {
+            let v = tally[s];
+            if carries(v, bonds, members, total) {
+                return true;
+            }
+        }
+        s += 1;
+    }
+    false
+}

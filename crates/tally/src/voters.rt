@@ -1,0 +1,102 @@
+// The members behind a link, and what their bonds come to.
+ghost use mathlib.Core.Path.{_≡_};
+ghost use mathlib.Core.Bool.{true, _||_};
+ghost use Prim.Native.Nat.{ℕ, _*_, _≤_, _<_};
+ghost use lib.Dec.{eqb};
+ghost use lib.ListN.{getD};
+ghost use Rattle.model.specs.Limits.{bondLimit};
+ghost use Rattle.model.specs.Support.{quorum};
+ghost use Rattle.tally.specs.Bits.{among, sumBelow, countBelow};
+ghost use Rattle.tally.specs.Weights.{Bonds, weightOf, carried};
+
+// The members behind a link as 128 bits: the member at place i is bit i, in `lo` below 64 and in `hi` from there on.
+pub struct Voters {
+    pub lo: u64,
+    pub hi: u64,
+}
+
+// Whether the member at place i is among them.
+pub fn has(v: Voters, i: usize) -> bool
+    requires { ⌜ i < 128 ⌝ }
+    ensures { λ r. ⌜ r ≡ among v i ⌝ }
+{
+    if i < 64 {
+        (v.lo >> i) % 2 == 1
+    } else {
+        (v.hi >> (i - 64)) % 2 == 1
+    }
+}
+
+// The same with the member at place i.
+pub fn insert(v: Voters, i: usize) -> Voters
+    requires { ⌜ i < 128 ⌝ }
+    ensures { λ r. ⌜ ((j : ℕ) → among r j ≡ (among v j || eqb j i)) ⌝ }
+{
+    if i < 64 {
+        Voters {
+            lo: v.lo | (1 << i),
+            hi: v.hi,
+        }
+    } else {
+        Voters {
+            lo: v.lo,
+            hi: v.hi | (1 << (i - 64)),
+        }
+    }
+}
+
+// How many they are.
+pub fn number(v: Voters) -> u32
+    ensures { λ r. ⌜ r ≡ countBelow 128 (among v) ⌝ }
+{
+    u64::count_ones(v.lo) + u64::count_ones(v.hi)
+}
+
+// The bonds of those among the first `count` members.
+pub fn weigh(v: Voters, bonds: &[u64], count: usize) -> u64
+    requires { ⌜ Bonds (now bonds) count ⌝ }
+    ensures { λ r. ⌜ r ≡ weightOf (now (bonds .entry)) count v ⌝ }
+{
+    let mut sum: u64 = 0;
+    let mut i: usize = 0;
+    while i < count {
+        if has(v, i) {
+            sum += bonds[i];
+        }
+        i += 1;
+    }
+    sum
+}
+
+// The bonds of all members.
+pub fn total_bond(bonds: &[u64], members: usize) -> u64
+    requires { ⌜ Bonds (now bonds) members ⌝ }
+    ensures { λ r. ⌜ r ≡ sumBelow members (λ i. true) (λ i. getD (now (bonds .entry)) i 0) ⌝ }
+{
+    let everybody = Voters {
+        lo: 0xffff_ffff_ffff_ffff,
+        hi: 0xffff_ffff_ffff_ffff,
+    };
+    weigh(everybody, bonds, members)
+}
+
+// Document 01's supermajority. No sum of 128 bonds is so large that three times it would not fit.
+pub fn is_quorum(part: u64, whole: u64) -> bool
+    requires { ⌜ (part ≤ 128 * bondLimit) × (whole ≤ 128 * bondLimit) ⌝ }
+    ensures { λ r. ⌜ r ≡ quorum part whole ⌝ }
+{
+    (0 < whole) & (2 * whole <= 3 * part)
+}
+
+// Whether they are a supermajority of the members whose bonds come to `total`.
+pub fn carries(v: Voters, bonds: &[u64], members: usize, total: u64) -> bool
+    requires { ⌜ Bonds (now bonds) members × (total ≤ 128 * bondLimit) ⌝ }
+    ensures { λ r. ⌜ r ≡ carried (now (bonds .entry)) members total v ⌝ }
+{
+    if v.lo == 0 {
+        if v.hi == 0 {
+            return false;
+        }
+    }
+    is_quorum(weigh(v, bonds, members), total)
+}

@@ -1,0 +1,119 @@
+// The votes by target, and the voters of every link to one target.
+use crate::voters::Voters;
+use crate::voters::insert;
+use crate::voters::total_bond;
+use model::Place;
+use state::Witness;
+ghost use mathlib.Core.Path.{_≡_};
+ghost use mathlib.Core.Bool.{Bool, _&&_};
+ghost use Prim.Native.Nat.{ℕ, _≤_, _<_};
+ghost use lib.Dec.{eqb};
+ghost use lib.ListN.{length, getD, take};
+ghost use Rattle.model.specs.Lists.{firstIndex, anyBelow};
+ghost use Rattle.tables.specs.Places.{placeAt};
+ghost use Rattle.search.specs.Chains.{Chain};
+ghost use Rattle.tally.specs.Bits.{among};
+ghost use Rattle.tally.specs.Chains.{ByTarget, Walkable, nobody, casts};
+ghost use Rattle.tally.specs.Ready.{Sound, Ready};
+
+// The place of each vote's member.
+pub fn member_places<'a>(
+    ids: &'a [u16],
+    members: usize,
+    voters: &'a [u16],
+    count: usize,
+) -> [u16; 4096]
+    requires { ⌜ (members ≤ length (now ids)) × (members ≤ 128) × (count ≤ length (now voters)) × (count ≤ 4096) ⌝ }
+    ensures { λ r. ⌜ ((k : ℕ) → k < count → getD r k 0 ≡ firstIndex (λ x. eqb x (getD (now (voters .entry)) k 0)) (take members (now (ids .entry)))) ⌝ }
+{
+    let mut places = [0u16; 4096];
+    let mut k: usize = 0;
+    while k < count {
+        places[k] = tables::find_id(ids, members, voters[k]) as u16;
+        k += 1;
+    }
+    places
+}
+
+// The votes in chains, one for each target. A vote stands in a chain by its number plus 1, and 0 ends the chain:
+// `head` has the last vote for a target, `next` the last vote before a vote that has its target.
+pub struct Buckets {
+    pub head: [u16; 512],
+    pub next: [u16; 4096],
+}
+
+// Puts the votes into chains.
+pub fn bucket(targets: [Place; 4096], count: usize) -> Buckets
+    requires { ⌜ (count ≤ 4096) × ((k : ℕ) → k < count → placeAt targets k < 512) ⌝ }
+    ensures { λ r. ⌜ ByTarget targets count (r .head) (r .next) ⌝ }
+{
+    let mut head = [0u16; 512];
+    let mut next = [0u16; 4096];
+    let mut k: usize = 0;
+    while k < count {
+        let t = targets[k];
+        let at = t.0 as usize;
+        next[k] = head[at];
+        head[at] = (k + 1) as u16;
+        k += 1;
+    }
+    Buckets { head, next }
+}
+
+// The votes of a witness, ready to be counted: the place of each vote's member, the votes in chains, and the total bond.
+pub struct Ballots {
+    pub who: [u16; 4096],
+    pub head: [u16; 512],
+    pub next: [u16; 4096],
+    pub total: u64,
+}
+
+// Makes the votes of a sound state ready.
+pub fn prepare(w: Witness) -> Ballots
+    requires { ⌜ Sound w ⌝ }
+    ensures { λ r. ⌜ Ready w r ⌝ }
+{
+    let members = w.member_count;
+    let votes = w.vote_count;
+    let targets = w.targets;
+    let who = member_places(&w.ids, members, &w.voters, votes);
+    let chains = bucket(targets, votes);
+    let head = chains.head;
+    let next = chains.next;
+    let total = total_bond(&w.bonds, members);
+    Ballots {
+        who,
+        head,
+        next,
+        total,
+    }
+}
+
+// The voters of each source's link, by the chain of one target's votes.
+pub fn gather<'a>(
+    who: &'a [u16],
+    sources: [Place; 4096],
+    next: &'a [u16],
+    from: u16,
+) -> [Voters; 512]
+    requires { ⌜ Walkable (now who) sources (now next) from ⌝ }
+    ensures { λ r. ⌜
+        ((on : ℕ → Bool) (count : ℕ)
+        → Chain on count (now (next .entry)) from
+        → (s i : ℕ)
+        → s < 512
+        → among (getD r s nobody) i ≡ anyBelow count (λ k. on k && casts (now (who .entry)) sources s i k))
+        ⌝ }
+{
+    let mut tally = [Voters { lo: 0, hi: 0 }; 512];
+    let mut at = from;
+    while 0 < at {
+        let k = (at - 1) as usize;
+        let s = sources[k];
+        let source = s.0 as usize;
+        let v = tally[source];
+        tally[source] = insert(v, who[k] as usize);
+        at = next[k];
+    }
+    tally
+}
