@@ -2,20 +2,19 @@
 use Prim.Native.Nat.{ℕ, suc, _+_, _-_, _*_, _<_, _≤_}
 use native.Mathlib.Omega.{arith}
 use native.Mathlib.Numerals.{add-one}
-use mathlib.Core.Path.{_≡_, refl, sym, ap, ap₂, _∙_}
+use mathlib.Core.Path.{_≡_, sym, ap, ap₂, _∙_}
 use mathlib.Core.List.{List, _∷_}
-use mathlib.Core.Bool.{Bool, true, false, _&&_, _||_, not, true≢false, false≢true}
+use mathlib.Core.Bool.{Bool, false, _&&_, not}
 use borrow.Author.Tests.{eq-eqb}
 use lib.ListN.{getD, drop}
 use lib.Seq.{drop-drop}
-use lib.Dec.{eqb}
 use Rattle.model.specs.Answer.{Answer, answer, row}
 use Rattle.model.specs.Bytes.{field}
 use Rattle.model.specs.Checker.{entries, checkFrom}
 use Rattle.model.specs.Evidence.{Charge, bondOf}
 use Rattle.model.specs.Limits.{rootHeight, bondLimit}
 use Rattle.model.specs.Model.{Model, Member, Vote, Checkpoint, noMember, noVote, memberAt, voteAt, heightOf, sameVote}
-use Rattle.model.specs.Slashing.{doubleVote?, surroundVote?, breaks?}
+use Rattle.model.specs.Slashing.{breaks?}
 use Rattle.model.specs.WellFormed.{WellFormed}
 use Rattle.model.proofs.Lists.{tabulate-at}
 use Rattle.state.specs.declared.Witness.{Witness}
@@ -23,7 +22,9 @@ use Rattle.state.specs.State.{modelOf, memberIn, voteIn, place, height}
 use Rattle.state.proofs.Fields.{field-at}
 use Rattle.state.proofs.Held.{heights-held}
 use Rattle.state.proofs.Kept.{count-members, count-checkpoints, count-votes}
-use Rattle.entry.specs.Entry.{VotersHeld, heightsBreak, entryAt, PairFound}
+use Rattle.slashing.specs.Heights.{heightsBreak}
+use Rattle.slashing.proofs.Heights.{heights-break}
+use Rattle.entry.specs.Entry.{VotersHeld, entryAt, PairFound}
 
 -- ---- the entries that are left
 
@@ -58,17 +59,12 @@ entries-none m floor sum count i l h =
 
 -- ---- two distinct votes of one member
 
--- what is left of the test, once the members are the same and the votes are not
-distinct-test : (voter source target condition : Bool) → voter ≡ true → (voter && source && target) ≡ false → (voter && (not source || not target) && condition) ≡ condition
-distinct-test true true true condition e d = absurd (true≢false d)
-distinct-test true true false condition e d = refl
-distinct-test true false target condition e d = refl
-distinct-test false source target condition e d = absurd (false≢true e)
-
+-- two votes of one member break a condition exactly when their heights do
 breaks-by-heights : (cs : List Checkpoint) (v w : Vote) → v .voter ≡ w .voter → sameVote v w ≡ false
     → breaks? cs v w ≡ heightsBreak (heightOf cs (v .source)) (heightOf cs (v .target)) (heightOf cs (w .source)) (heightOf cs (w .target))
-unfolding breaks? doubleVote? surroundVote? heightsBreak
-breaks-by-heights cs v w e d = distinct-test (eqb (v .voter) (w .voter)) (eqb (v .source) (w .source)) (eqb (v .target) (w .target)) _ (eq-eqb _ _ e) d
+breaks-by-heights cs v w e d =
+    heights-break cs v w d
+    ∙ ap (λ (b : Bool). b && heightsBreak (heightOf cs (v .source)) (heightOf cs (v .target)) (heightOf cs (w .source)) (heightOf cs (w .target))) (eq-eqb _ _ e)
 
 -- ---- the arrays of a witness
 

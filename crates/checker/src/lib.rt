@@ -1,10 +1,10 @@
 // The checker of a list of charges against a witness: rows 50 to 57, and the sum of the bonds that the list names.
 use entry::Found;
 use entry::HeaderAnswer;
-use entry::breaks;
 use entry::find_pair;
 use entry::header_of;
 use model::Refusal;
+use slashing::breaks;
 use state::Witness;
 ghost use mathlib.Core.Path.{_≡_};
 ghost use Prim.Native.Nat.{_+_, _*_};

@@ -2,7 +2,7 @@
 use Prim.Native.Nat.{ℕ, _+_}
 use mathlib.Core.Path.{_≡_}
 use mathlib.Core.List.{List}
-use mathlib.Core.Bool.{Bool, false, cond}
+use mathlib.Core.Bool.{Bool, cond}
 use Rattle.model.specs.Answer.{Answer, refused, answer}
 use Rattle.model.specs.Model.{Change}
 use Rattle.model.specs.Run.{Told, nothingLeft, taken, told}

@@ -1,6 +1,5 @@
 pub mod Gathering
 pub mod Pairs
-pub mod Filling
 pub mod Members
 pub mod Heights
 pub mod Sorting

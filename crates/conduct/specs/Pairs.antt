@@ -1,19 +1,12 @@
 -- Pairs of votes that break a condition, over the votes' numbers and heights.
 use Prim.Native.Nat.{ℕ, zero, suc}
 use mathlib.Core.List.{List, [], _∷_}
-use mathlib.Core.Bool.{Bool, cond, _&&_, _||_}
+use mathlib.Core.Bool.{Bool, cond}
 use lib.ListN.{getD}
-use lib.Dec.{eqb, ltb}
+use lib.Dec.{eqb}
 use Rattle.model.specs.Evidence.{Conduct, clear, broken}
 use Rattle.model.specs.Lists.{any, firstIndex}
-
--- II, on heights: the first vote surrounds the second
-abbrev pub surround : ℕ → ℕ → ℕ → ℕ → Bool
-surround low1 high1 low2 high2 = ltb low1 low2 && ltb low2 high2 && ltb high2 high1
-
--- I or II, in either order
-abbrev pub heightsBreak : ℕ → ℕ → ℕ → ℕ → Bool
-heightsBreak low1 high1 low2 high2 = eqb high1 high2 || surround low1 high1 low2 high2 || surround low2 high2 low1 high1
+use Rattle.slashing.specs.Heights.{heightsBreak}
 
 -- the votes with these numbers
 abbrev pub breakAt : List ℕ → List ℕ → ℕ → ℕ → Bool

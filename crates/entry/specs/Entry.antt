@@ -2,9 +2,8 @@
 use Prim.Native.Nat.{ℕ, suc, _+_, _*_, _<_, _≤_}
 use mathlib.Core.Path.{_≡_}
 use mathlib.Core.List.{List, _∷_}
-use mathlib.Core.Bool.{Bool, _&&_, _||_, not}
+use mathlib.Core.Bool.{not}
 use lib.ListN.{length, getD, drop}
-use lib.Dec.{eqb, ltb}
 use Rattle.model.specs.Answer.{refused, row}
 use Rattle.model.specs.Bytes.{field}
 use Rattle.model.specs.Checker.{entries, checkFrom, check}
@@ -30,10 +29,6 @@ HeaderIs l (RefuseHeader r) = (m : Model) → check m l ≡ refused (refusalNumb
 pub record VotersHeld (m : Model) (voters : List ℕ) (n : ℕ) : Type 0 where
   pub count : length (m .votes) ≡ n
   pub voter : (k : ℕ) → k < n → voteAt (m .votes) k .voter ≡ getD voters k 0
-
--- the two slashing conditions on the heights of two votes' sources and targets, II in either order
-unfoldable pub heightsBreak : ℕ → ℕ → ℕ → ℕ → Bool
-heightsBreak s1 t1 s2 t2 = eqb t1 t2 || (ltb s1 s2 && ltb s2 t2 && ltb t2 t1) || (ltb s2 s1 && ltb s1 t1 && ltb t1 t2)
 
 -- the entry whose six bytes stand at an offset of the list
 abbrev pub entryAt : ℕ → List ℕ → Charge

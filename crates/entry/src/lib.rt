@@ -1,5 +1,4 @@
-// A list's header and one of its entries: rows 50 to 56, and whether the heights of an entry's two votes break a condition.
-use model::Height;
+// A list's header and one of its entries: rows 50 to 56.
 use model::Refusal;
 ghost use mathlib.Core.Path.{_≡_};
 ghost use Prim.Native.Nat.{_+_, _≤_};
@@ -7,7 +6,7 @@ ghost use lib.ListN.{length};
 ghost use Rattle.model.specs.Checker.{ownVote?};
 ghost use Rattle.model.specs.Model.{Model};
 ghost use Rattle.state.specs.Tables.{MembersHeld};
-ghost use Rattle.entry.specs.Entry.{VotersHeld, heightsBreak, entryAt, FoundIs, HeaderIs};
+ghost use Rattle.entry.specs.Entry.{VotersHeld, entryAt, FoundIs, HeaderIs};
 
 // How many entries a list has, or the row that refuses its header.
 pub enum HeaderAnswer {
@@ -55,15 +54,6 @@ fn own_vote(voters: &[u16], votes: usize, id: u16, number: usize) -> bool
         return false;
     }
     voters[number] == id
-}
-
-// Whether two distinct votes of one member break a slashing condition, by the heights of their sources and targets.
-pub fn breaks(s1: Height, t1: Height, s2: Height, t2: Height) -> bool
-    ensures { λ r. ⌜ r ≡ heightsBreak (s1 .0) (t1 .0) (s2 .0) (t2 .0) ⌝ }
-{
-    (t1.0 == t2.0)
-        | ((s1.0 < s2.0) & (s2.0 < t2.0) & (t2.0 < t1.0))
-        | ((s2.0 < s1.0) & (s1.0 < t1.0) & (t1.0 < t2.0))
 }
 
 // Rows 53 to 56 of the entry at `at`; `floor` is one more than the id before, and 0 for the first.

@@ -1,11 +1,11 @@
 -- Reading a log on, many records in one call: what the rest of the log comes to is what these and then the rest behind them
 -- come to.
-use Prim.Native.Nat.{ℕ, _+_, _-_, _<_, _≤_}
+use Prim.Native.Nat.{ℕ, _+_, _<_, _≤_}
 use native.Mathlib.Omega.{arith}
 use mathlib.Core.Path.{_≡_, refl, sym, ap, ap₂, _∙_, subst, subst₂}
 use mathlib.Core.List.{List, [], _∷_, _++_}
 use mathlib.Core.Logic.{⊎-elim}
-use mathlib.Core.Bool.{true, false, _&&_}
+use mathlib.Core.Bool.{false, _&&_}
 use borrow.Author.Tests.{eqb-false, lt-ltb}
 use lib.Dec.{eqb, ltb}
 use lib.ListN.{length, drop, length-drop, length-append}
@@ -18,7 +18,7 @@ use Rattle.model.proofs.Lists.{clash, lt-or-ge}
 use Rattle.state.specs.Reading.{outcomeOf}
 use Rattle.state.specs.State.{modelOf, store}
 use Rattle.state.specs.declared.Witness.{Witness}
-use Rattle.reader.specs.Many.{Many, readMany, lastTold, IsBatch}
+use Rattle.reader.specs.Many.{readMany, lastTold, IsBatch}
 use Rattle.reader.specs.declared.Batch.{Batch}
 use Rattle.reader.proofs.Made.{length-inside, while-passed, many-ends}
 use Rattle.reader.proofs.Runs.{last-is, any-last}

@@ -6,7 +6,7 @@ use mathlib.Core.List.{List, [], _∷_, _++_, map}
 use mathlib.Core.Bool.{Bool, true, false, cond}
 use lib.Dec.{ltb}
 use lib.ListN.{length, drop, length-drop}
-use Rattle.model.specs.Answer.{Answer, refused, answer, row}
+use Rattle.model.specs.Answer.{Answer, answer, row}
 use Rattle.model.specs.Bytes.{AreBytes}
 use Rattle.model.specs.Checker.{check}
 use Rattle.model.specs.Decide.{decide}

@@ -1,7 +1,7 @@
 -- The log: its header and its three kinds of records. Document 01, "The log".
 use Prim.Native.Nat.{ℕ}
 use mathlib.Core.List.{List, [], _∷_}
-use mathlib.Core.Bool.{Bool, cond, not}
+use mathlib.Core.Bool.{cond, not}
 use lib.ListN.{length, take}
 use lib.Dec.{eqb, ltb}
 use Rattle.model.specs.Answer.{Answer, answer, row}

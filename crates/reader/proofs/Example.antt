@@ -11,7 +11,6 @@ use Rattle.model.specs.Log.{recordSize, recordLength, decode, decodeWhole}
 use Rattle.model.specs.Model.{memberIndex}
 use Rattle.model.specs.Run.{taken, told}
 use Rattle.state.specs.State.{emptyWitness, modelOf, withMember, store}
-use Rattle.state.specs.declared.Witness.{Witness}
 use Rattle.reader.specs.Many.{Many, readMany}
 
 abbrev log : List ℕ

@@ -15,17 +15,16 @@ use Rattle.model.specs.Decide.{decide}
 use Rattle.model.specs.Limits.{rootHeight}
 use Rattle.model.specs.Log.{recordLength}
 use Rattle.model.specs.Model.{Model, Change}
-use Rattle.model.specs.Run.{reading, Told, nothingLeft, taken, told, decideEvent}
+use Rattle.model.specs.Run.{reading, Told, nothingLeft, told, decideEvent}
 use Rattle.model.specs.WellFormed.{WellFormed}
 use Rattle.model.proofs.Run.{event-good}
 use Rattle.state.specs.State.{Typed, modelOf, store}
-use Rattle.state.specs.Reading.{outcomeOf, IsReading}
+use Rattle.state.specs.Reading.{outcomeOf}
 use Rattle.state.specs.declared.Outcome.{Outcome}
 use Rattle.state.specs.declared.Outcome.the-variants.{Nothing, Taken}
 use Rattle.state.specs.declared.Witness.{Witness}
 use Rattle.state.proofs.Kept.{reading-kept}
 use Rattle.reader.specs.Many.{Many, behind, readMany, lastTold, rowOf, IsBatch}
-use Rattle.reader.specs.declared.Batch.{Batch}
 
 -- what is left of bytes consists of bytes
 pub bytes-left : (at : ℕ) (log : List ℕ) → AreBytes log → AreBytes (drop at log)

@@ -7,13 +7,13 @@ use Rattle.model.specs.Answer.{Answer}
 use Rattle.model.specs.Model.{Change, Member, Checkpoint, Vote}
 use Rattle.search.specs.Chains.{Indexed}
 use Rattle.state.specs.State.{Sized, modelOf, withMember, withCheckpoint, withVote, store}
-use Rattle.state.specs.Tables.{keyOf, VotesHeld}
+use Rattle.state.specs.Tables.{keyOf, KeysHeld}
 use Rattle.state.specs.declared.Witness.{Witness}
 use Rattle.state.proofs.Held.{member-kept, checkpoint-kept, vote-more}
 
 pub record Searched (w : Witness) (keys heads nexts : List ℕ) : Type 0 where
   pub indexed : Indexed (w .«vote_count») keys heads nexts
-  pub votes : VotesHeld (modelOf w) keys (w .«vote_count»)
+  pub votes : KeysHeld (modelOf w) keys (w .«vote_count»)
 
 pub searched-as : {v w : Witness} {keys keys′ heads heads′ nexts nexts′ : List ℕ} → v ≡ w → keys′ ≡ keys → heads′ ≡ heads → nexts′ ≡ nexts → Searched w keys heads nexts → Searched v keys′ heads′ nexts′
 searched-as {v} {w} {keys} {keys′} {heads} {heads′} {nexts} {nexts′} e k h n so =
@@ -42,5 +42,5 @@ module _ (w : Witness) {keys heads nexts : List ℕ} (so : Searched w keys heads
   with-vote sized v room vs vt {keys′} e indexed =
       record {
         indexed = indexed;
-        votes = subst (λ (l : List ℕ). VotesHeld (modelOf (withVote w v)) l (w .«vote_count» + 1)) (sym e) (vote-more w (so .votes) sized v room (so .indexed .numbers-long) vs vt);
+        votes = subst (λ (l : List ℕ). KeysHeld (modelOf (withVote w v)) l (w .«vote_count» + 1)) (sym e) (vote-more w (so .votes) sized v room (so .indexed .numbers-long) vs vt);
       }

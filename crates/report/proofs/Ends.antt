@@ -5,7 +5,7 @@ use mathlib.Core.Path.{_≡_, refl, sym, ap, ap₂, _∙_, subst}
 use mathlib.Core.List.{List, []}
 use mathlib.Core.Bool.{Bool, true, false, cond, not, _&&_}
 use borrow.Author.Tests.{eq-eqb, ne-eqb, lt-ltb, le-ltb}
-use lib.Dec.{eqb, ltb}
+use lib.Dec.{ltb}
 use lib.ListN.{length}
 use Rattle.model.specs.Answer.{Answer, refused, answer}
 use Rattle.model.specs.Bytes.{part}
@@ -15,7 +15,7 @@ use Rattle.model.specs.Refusals.{refusalNumber}
 use Rattle.model.specs.Report.{summary, stoppedLine}
 use Rattle.model.specs.declared.Refusal.{Refusal}
 use Rattle.state.specs.Reading.{startOf, beginWith, IsBeginning}
-use Rattle.state.specs.State.{emptyWitness, modelOf}
+use Rattle.state.specs.State.{modelOf}
 use Rattle.state.specs.declared.Beginning.{Beginning}
 use Rattle.state.specs.declared.Start.the-variants.{Begun, Refused as RefusedHeader}
 use Rattle.state.specs.declared.Witness.{Witness}

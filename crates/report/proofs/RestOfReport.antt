@@ -11,7 +11,7 @@ use Rattle.model.specs.Answer.{refused}
 use Rattle.model.specs.Decide.{decide, decideRecord}
 use Rattle.model.specs.Lists.{any}
 use Rattle.model.specs.Log.{recordLength, decode}
-use Rattle.model.specs.Model.{Model, nothing, apply}
+use Rattle.model.specs.Model.{Model, apply}
 use Rattle.model.specs.Report.{summary, stops?, stoppedLine, outcomeLine, outcomeLines}
 use Rattle.model.specs.Run.{Event, reading, decideEvent, after, outcomes, readings}
 use Rattle.model.proofs.Lists.{clash}

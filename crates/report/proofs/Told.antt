@@ -13,7 +13,6 @@ use Rattle.model.specs.Report.{stoppedLine}
 use Rattle.model.specs.Run.{Told, told}
 use Rattle.state.specs.declared.Witness.{Witness}
 use Rattle.text.specs.Put.{Put}
-use Rattle.text.proofs.Putting.{none}
 use Rattle.report.specs.Feed.{wants, ended, Feeding, pausedAt, pausedOf, halted, IsFed}
 use Rattle.report.specs.declared.Pause.{Pause}
 

@@ -30,7 +30,7 @@ member-read at log p q = λ i. record { id = (p ∙ sym (field-at at 1 2 log)) i
 pub members-fixed : {m : Model} {ids names keys : List ℕ} {members checkpoints votes : ℕ} {parents : List Place} {heights : List Height}
     → Held m ids members names parents heights checkpoints keys votes → membersFixed m ≡ (ltb 0 votes || ltb 1 checkpoints)
 unfolding membersFixed
-members-fixed held = ap₂ (λ (v c : ℕ). ltb 0 v || ltb 1 c) (held .votes-held .count) (held .names-held .count)
+members-fixed held = ap₂ (λ (v c : ℕ). ltb 0 v || ltb 1 c) (held .keys-held .count) (held .names-held .count)
 
 pub member-rows : (m : Model) (x : Member) {b10 b11 b12 b13 : Bool}
     → membersFixed m ≡ b10

@@ -15,7 +15,7 @@ ghost use Rattle.model.specs.Decide.{membersFixed, decideMember, decideCheckpoi
 ghost use Rattle.search.specs.Chains.{Indexed};
 ghost use Rattle.tables.specs.Places.{Falling};
 ghost use Rattle.state.specs.Reading.{outcomeOf};
-ghost use Rattle.state.specs.Tables.{MembersHeld, NamesHeld, HeightsHeld, AncestorsHeld, VotesHeld, Held, Low};
+ghost use Rattle.state.specs.Tables.{MembersHeld, NamesHeld, HeightsHeld, AncestorsHeld, KeysHeld, Held, Low};
 ghost use Rattle.rules.specs.Decision.{decisionOf, passedBy, Decides, voteBetween, Within};
 
 // What is decided on a record: nothing is there; a row refuses it, and reading passes so many bytes; or what is to be held: a
@@ -183,7 +183,7 @@ fn decide_places<'a>(
         ((m : Model) (from : List ℕ)
         → HeightsHeld m heights checkpoints
         → AncestorsHeld m parents checkpoints
-        → VotesHeld m (now (keys .entry)) votes
+        → KeysHeld m (now (keys .entry)) votes
         → Decides
         from
         (decidePlaces m (record { voter = id; source = s .0; target = t .0 }) («source_height» .0) («target_height» .0))

@@ -5,14 +5,12 @@ use mathlib.Core.Path.{_≡_, refl, sym, ap, ap₂, _∙_}
 use mathlib.Core.List.{List, [], _∷_}
 use mathlib.Core.Bool.{Bool, true, false, _&&_, _||_, not, true≢false}
 use borrow.Author.Tests.{ltb-true, lt-ltb}
-use lib.ListN.{length, getD, take}
+use lib.ListN.{length, getD}
 use lib.Dec.{eqb, ltb, leb}
 use Rattle.model.specs.Bytes.{part}
-use Rattle.model.specs.Decide.{idHeld}
 use Rattle.model.specs.Limits.{bondLimit, memberLimit, checkpointLimit, voteLimit, rootHeight}
-use Rattle.model.specs.Lists.{allOf, allBelow, pairBelow, firstIndex, sameBytes}
+use Rattle.model.specs.Lists.{allOf, allBelow, pairBelow, sameBytes}
 use Rattle.model.specs.Model.{Member, Checkpoint, Vote, memberAt, checkpointAt, voteAt, heightOf, parentOf, sameVote, noMember, noCheckpoint, noVote}
-use Rattle.model.specs.Tree.{ancestor?}
 use Rattle.model.specs.WellFormed.{bonds?, tree?, vote?, votes?, idTwice?, nameTwice?, voteTwice?, wellFormed?}
 use Rattle.model.proofs.Lists.{tabulate-at}
 use Rattle.tables.specs.Places.{placeAt, heightAt, isStep, isVote, isSound}

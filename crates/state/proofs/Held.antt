@@ -20,7 +20,7 @@ use Rattle.tables.proofs.Ancestry.{tree-tabulate}
 use Rattle.tables.proofs.Tables.{rows-length, rows-at}
 use Rattle.state.specs.declared.Witness.{Witness}
 use Rattle.state.specs.State.{Sized, modelOf, memberIn, checkpointIn, voteIn, withMember, withCheckpoint, withVote}
-use Rattle.state.specs.Tables.{MembersHeld, NamesHeld, HeightsHeld, AncestorsHeld, keyOf, VotesHeld, Held}
+use Rattle.state.specs.Tables.{MembersHeld, NamesHeld, HeightsHeld, AncestorsHeld, keyOf, KeysHeld, Held}
 use Rattle.state.proofs.Store.{store-vote}
 
 module _ (w : Witness) where
@@ -61,9 +61,9 @@ module _ (w : Witness) where
   ancestors-held = record { ancestor = λ a b. sym (tree-tabulate (w .«checkpoint_count») (w .parents) (checkpointIn w) (λ i h. refl) a b) }
 
   -- the votes' numbers hold the votes
-  pub votes-held : {keys : List ℕ} → Packed (w .voters) (w .sources) (w .targets) (w .«vote_count») keys → VotesHeld (modelOf w) keys (w .«vote_count»)
+  pub keys-held : {keys : List ℕ} → Packed (w .voters) (w .sources) (w .targets) (w .«vote_count») keys → KeysHeld (modelOf w) keys (w .«vote_count»)
   unfolding modelOf voteHeld
-  votes-held {keys} packed =
+  keys-held {keys} packed =
       let n = w .«vote_count» in
       record {
         count = length-tabulate n (voteIn w);
@@ -72,8 +72,8 @@ module _ (w : Witness) where
             ∙ any-same n (λ k. sameVote (voteIn w k) v) (λ k. eqb (getD keys k 0) (keyOf v)) (λ k h. sym (packed-is (w .voters) (w .sources) (w .targets) packed k (v .voter) (v .source) (v .target) h hs ht));
       }
 
-  pub all-held : {keys : List ℕ} → w .«member_count» ≤ length (w .ids) → VotesHeld (modelOf w) keys (w .«vote_count») → Held (modelOf w) (w .ids) (w .«member_count») (w .names) (w .parents) (w .heights) (w .«checkpoint_count») keys (w .«vote_count»)
-  all-held fits votes = record { members-held = members-held fits; names-held = names-held; heights-held = heights-held; ancestors-held = ancestors-held; votes-held = votes }
+  pub all-held : {keys : List ℕ} → w .«member_count» ≤ length (w .ids) → KeysHeld (modelOf w) keys (w .«vote_count») → Held (modelOf w) (w .ids) (w .«member_count») (w .names) (w .parents) (w .heights) (w .«checkpoint_count») keys (w .«vote_count»)
+  all-held fits votes = record { members-held = members-held fits; names-held = names-held; heights-held = heights-held; ancestors-held = ancestors-held; keys-held = votes }
 
 -- whether a member is held, by the search in the table
 pub held-id : {m : Model} {ids : List ℕ} {n : ℕ} (id : ℕ) {r : ℕ} → MembersHeld m ids n → r ≡ firstIndex (λ x. eqb x id) (take n ids) → idHeld m id ≡ ltb r n
@@ -82,19 +82,19 @@ held-id {n = n} id {r} h e = ap₂ ltb (h .index id ∙ sym e) (h .count)
 
 -- ---- the votes' numbers, once more is held
 
-module _ (w : Witness) {keys : List ℕ} (held : VotesHeld (modelOf w) keys (w .«vote_count»)) where
-  pub member-kept : (x : Member) → VotesHeld (modelOf (withMember w x)) keys (w .«vote_count»)
+module _ (w : Witness) {keys : List ℕ} (held : KeysHeld (modelOf w) keys (w .«vote_count»)) where
+  pub member-kept : (x : Member) → KeysHeld (modelOf (withMember w x)) keys (w .«vote_count»)
   unfolding modelOf withMember
   member-kept x = record { count = held .count; held = held .held }
 
-  pub checkpoint-kept : (c : Checkpoint) → VotesHeld (modelOf (withCheckpoint w c)) keys (w .«vote_count»)
+  pub checkpoint-kept : (c : Checkpoint) → KeysHeld (modelOf (withCheckpoint w c)) keys (w .«vote_count»)
   unfolding modelOf withCheckpoint
   checkpoint-kept c = record { count = held .count; held = held .held }
 
-  pub vote-more : Sized w → (v : Vote) → w .«vote_count» < 4096 → length keys ≡ 4096 → v .source < 65536 → v .target < 65536 → VotesHeld (modelOf (withVote w v)) (set keys (w .«vote_count») (keyOf v)) (w .«vote_count» + 1)
+  pub vote-more : Sized w → (v : Vote) → w .«vote_count» < 4096 → length keys ≡ 4096 → v .source < 65536 → v .target < 65536 → KeysHeld (modelOf (withVote w v)) (set keys (w .«vote_count») (keyOf v)) (w .«vote_count» + 1)
   unfolding append voteHeld
   vote-more sized v room long vs vt =
-      subst (λ (m : Model). VotesHeld m (set keys (w .«vote_count») (keyOf v)) (w .«vote_count» + 1)) (sym (store-vote w sized v room))
+      subst (λ (m : Model). KeysHeld m (set keys (w .«vote_count») (keyOf v)) (w .«vote_count» + 1)) (sym (store-vote w sized v room))
       (record {
         count = length-append (modelOf w .votes) (v ∷ []) ∙ omega (arith, held .count);
         held = λ u us ut.

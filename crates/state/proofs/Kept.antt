@@ -1,23 +1,22 @@
 -- What a reading leaves: the model with what was decided added, and arrays of their types' lengths and ranges.
-use Prim.Native.Nat.{ℕ, zero, suc, _+_, _*_, _<_, _≤_, _^_}
+use Prim.Native.Nat.{ℕ, zero, suc, _*_, _<_, _^_}
 use native.Mathlib.Omega.{arith}
 use mathlib.Core.Path.{_≡_, refl, sym, ap, _∙_, subst}
 use mathlib.Core.List.{List, [], _∷_}
 use mathlib.Core.Bool.{Bool, true, false, cond, not}
-use mathlib.Core.Logic.{⊎-elim}
 use borrow.Author.Tests.{leb-false, ltb-false}
-use lib.ListN.{length, getD, set, take, drop, length-set, length-take, length-drop}
-use lib.Seq.{length-paste, getD-set-same, getD-set-other, set-out}
+use lib.ListN.{length, getD, set, drop, length-set, length-take, length-drop}
+use lib.Seq.{length-paste}
 use lib.Dec.{eqb, ltb, leb}
 use Rattle.model.specs.Answer.{Answer, refused, answer}
 use Rattle.model.specs.Bytes.{AreBytes, part, field}
-use Rattle.model.specs.Decide.{bondOutOfRange, heightsAgree, membersFixed, idHeld, nameHeld, decideMember, decideCheckpoint, decidePlaces, decideVote, decideRecord, decide}
+use Rattle.model.specs.Decide.{heightsAgree, decideMember, decideCheckpoint, decidePlaces, decideVote, decideRecord, decide}
 use Rattle.model.specs.Limits.{memberLimit, checkpointLimit, voteLimit}
 use Rattle.model.specs.Log.{Record, nothingLeft, unknownKind, cutRecord, memberRecord, checkpointRecord, voteRecord, recordSize, decode, decodeWhole}
-use Rattle.model.specs.Model.{Model, Member, Checkpoint, Vote, Change, nothing, addMember, addCheckpoint, addVote, append, apply, heightOf, placeOf}
+use Rattle.model.specs.Model.{Member, Checkpoint, Vote, Change, nothing, addMember, addCheckpoint, addVote, append, apply}
 use Rattle.model.proofs.Answer.{row-elim}
 use Rattle.model.proofs.Bytes.{field-below}
-use Rattle.model.proofs.Lists.{length-tabulate, lt-or-ge}
+use Rattle.model.proofs.Lists.{length-tabulate}
 use Rattle.state.specs.declared.Witness.{Witness}
 use Rattle.state.specs.State.{Typed, memberIn, checkpointIn, voteIn, modelOf, withMember, withCheckpoint, withVote, store}
 use Rattle.state.proofs.Store.{store-member, store-checkpoint, store-vote}

@@ -1,14 +1,13 @@
 -- What a sound state says of its arrays: the counts fit, parents stand at smaller places, and heights are small.
 use Prim.Native.Nat.{ℕ, zero, suc, _+_, _<_, _≤_}
 use native.Mathlib.Omega.{arith}
-use mathlib.Core.Path.{_≡_, refl, sym, ap, _∙_, subst}
-use mathlib.Core.Logic.{⊎-elim}
+use mathlib.Core.Path.{_≡_, ap, subst}
 use mathlib.Core.List.{List}
 use lib.ListN.{length}
 use Rattle.model.specs.Limits.{rootHeight}
 use Rattle.model.specs.Model.{Checkpoint, noCheckpoint, checkpointAt, heightOf, parentOf}
 use Rattle.model.specs.WellFormed.{GoodTree, WellFormed}
-use Rattle.model.proofs.Lists.{tabulate-at, lt-or-ge}
+use Rattle.model.proofs.Lists.{tabulate-at}
 use Rattle.tables.specs.Places.{Falling}
 use Rattle.state.specs.State.{modelOf, checkpointIn}
 use Rattle.state.specs.Tables.{Low}

@@ -1,8 +1,7 @@
 -- The empty witness of a right header holds the model's start.
-use Prim.Native.Nat.{ℕ, zero, suc, _+_, _*_, _<_, _≤_, _^_}
+use Prim.Native.Nat.{ℕ, zero, suc, _<_, _≤_, _^_}
 use native.Mathlib.Omega.{arith}
-use mathlib.Core.Path.{_≡_, refl, sym, ap, _∙_, subst}
-use mathlib.Core.Logic.{⊎-elim}
+use mathlib.Core.Path.{_≡_, sym, ap, _∙_}
 use mathlib.Core.List.{List, [], _∷_}
 use borrow.Author.Tests.{ltb-false}
 use lib.ListN.{length, getD, drop, replicate, length-replicate, length-take, length-drop}
@@ -11,9 +10,9 @@ use Rattle.model.specs.Answer.{answer}
 use Rattle.model.specs.Bytes.{part}
 use Rattle.model.specs.Lists.{tabulate}
 use Rattle.model.specs.Log.{header}
-use Rattle.model.specs.Model.{Model, Checkpoint, start}
+use Rattle.model.specs.Model.{start}
 use Rattle.model.proofs.Answer.{row-passes}
-use Rattle.state.specs.State.{Typed, place, height, emptyWitness, modelOf, checkpointIn}
+use Rattle.state.specs.State.{Typed, place, height, emptyWitness, modelOf}
 use Rattle.state.proofs.Store.{paste-new}
 
 zeros : ℕ → List ℕ

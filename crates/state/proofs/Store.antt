@@ -1,18 +1,17 @@
 -- Storing what was decided adds exactly that to the model.
-use Prim.Native.Nat.{ℕ, zero, suc, _+_, _*_, _<_, _≤_}
+use Prim.Native.Nat.{ℕ, _+_, _*_, _<_, _≤_}
 use native.Mathlib.Omega.{arith}
 use native.Mathlib.Numerals.{add-one}
-use mathlib.Core.Path.{_≡_, refl, sym, ap, ap₂, _∙_, subst}
+use mathlib.Core.Path.{_≡_, sym, ap, ap₂, _∙_}
 use mathlib.Core.List.{List, [], _∷_, _++_, map, append-assoc}
 use lib.ListN.{length, getD, set, take, drop, length-map, length-drop, take-append-drop}
 use lib.Seq.{paste, paste-suc, getD-drop, getD-set-same, getD-set-other, take-at, drop-at, take-all, length-take-le, take-append-le, drop-append-le}
-use Rattle.model.specs.Answer.{Answer, refused, answer}
 use Rattle.model.specs.Bytes.{part}
 use Rattle.model.specs.Lists.{tabulate}
-use Rattle.model.specs.Model.{Model, Member, Checkpoint, Vote, Change, nothing, addMember, addCheckpoint, addVote, append, apply}
+use Rattle.model.specs.Model.{Member, Checkpoint, Vote, addMember, addCheckpoint, addVote, append}
 use Rattle.model.proofs.Lists.{tabulate-same}
 use Rattle.state.specs.declared.Witness.{Witness}
-use Rattle.state.specs.State.{Sized, place, height, memberIn, checkpointIn, voteIn, modelOf, withMember, withCheckpoint, withVote, store}
+use Rattle.state.specs.State.{Sized, place, height, memberIn, checkpointIn, voteIn, modelOf, withMember, withCheckpoint, withVote}
 
 -- an array's length, from that of the list of its elements' values
 pub length-any : (X Y : Type 0) (f : X → Y) (l : List X) (n : ℕ) → length (map f l) ≡ n → length l ≡ n

@@ -34,7 +34,7 @@ abbrev pub keyOf : Vote → ℕ
 keyOf v = pack (v .voter) (v .source) (v .target)
 
 -- a vote between places of 16 bits is held exactly when its number is among the first n
-pub record VotesHeld (m : Model) (keys : List ℕ) (n : ℕ) : Type 0 where
+pub record KeysHeld (m : Model) (keys : List ℕ) (n : ℕ) : Type 0 where
   pub count : length (m .votes) ≡ n
   pub held : (v : Vote) → v .source < 65536 → v .target < 65536 → voteHeld (m .votes) v ≡ anyBelow n (λ k. eqb (getD keys k 0) (keyOf v))
 
@@ -44,7 +44,7 @@ pub record Held (m : Model) (ids : List ℕ) (members : ℕ) (names : List ℕ) 
   pub names-held : NamesHeld m names checkpoints
   pub heights-held : HeightsHeld m heights checkpoints
   pub ancestors-held : AncestorsHeld m parents checkpoints
-  pub votes-held : VotesHeld m keys votes
+  pub keys-held : KeysHeld m keys votes
 
 -- no height is so large that a child's would not fit
 abbrev pub Low : ℕ → List Height → Type 0

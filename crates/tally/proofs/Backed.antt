@@ -9,7 +9,7 @@ use borrow.Author.Tests.{eq-eqb, ne-eqb, eqb-true, eqb-false}
 use lib.Dec.{eqb}
 use lib.ListN.{length, getD, take}
 use Rattle.model.specs.Limits.{rootHeight, bondLimit}
-use Rattle.model.specs.Lists.{tabulate, anyBelow, firstIndex, any}
+use Rattle.model.specs.Lists.{tabulate, anyBelow, firstIndex}
 use Rattle.model.specs.Model.{Member, Vote, noMember, noVote, memberAt, voteAt, voteFor, voteHeld, sameVote, memberIndex}
 use Rattle.model.specs.Support.{count, sum, total, supports, quorum, Support, support, link?}
 use Rattle.model.specs.WellFormed.{WellFormed, GoodVote}
@@ -19,12 +19,12 @@ use Rattle.search.specs.Chains.{Chain}
 use Rattle.search.proofs.Pointwise.{any-same}
 use Rattle.search.proofs.Chains.{last-le, linked-earlier, linked-chain}
 use Rattle.state.specs.declared.Witness.{Witness}
-use Rattle.state.specs.State.{Typed, place, memberIn, voteIn, modelOf}
+use Rattle.state.specs.State.{Typed, memberIn, voteIn, modelOf}
 use Rattle.state.proofs.Held.{members-held}
 use Rattle.state.proofs.Kept.{count-members, count-checkpoints, count-votes}
 use Rattle.tally.specs.declared.voters.Voters.{Voters}
 use Rattle.tally.specs.Bits.{among, sumBelow, countBelow}
-use Rattle.tally.specs.Chains.{nobody, aims, casts, ByTarget, Walkable}
+use Rattle.tally.specs.Chains.{aims, casts, ByTarget, Walkable}
 use Rattle.tally.specs.Weights.{Bonds, weightOf, carried}
 use Rattle.tally.proofs.Bits.{sum-same}
 use Rattle.tally.proofs.Weights.{sum-more}

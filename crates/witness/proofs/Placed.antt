@@ -1,15 +1,13 @@
 -- Row 41, and the other calls' answers, once it is known that the state is sound.
-use Prim.Native.Nat.{ℕ, _<_, _≤_}
+use Prim.Native.Nat.{ℕ}
 use mathlib.Core.Path.{_≡_, refl, sym, ap, ap₂, _∙_}
 use mathlib.Core.List.{List, _++_}
 use mathlib.Core.Bool.{Bool, true, false, cond, _&&_, not}
-use borrow.Author.Tests.{lt-ltb, le-ltb}
 use lib.Dec.{ltb}
 use lib.ListN.{length, drop}
-use Rattle.model.specs.Answer.{Answer, refused, answer, row}
+use Rattle.model.specs.Answer.{refused, answer, row}
 use Rattle.model.specs.Evidence.{ourList}
 use Rattle.model.specs.Finality.{status, conflicting?}
-use Rattle.model.specs.Model.{Model}
 use Rattle.model.specs.Support.{support}
 use Rattle.state.specs.State.{modelOf}
 use Rattle.state.specs.declared.Witness.{Witness}

@@ -1,5 +1,5 @@
 -- `ffi::ffw_status` meets its contract: the standing, told in numbers. Assumes nothing.
-use mathlib.Core.Path.{refl, sym, ap, _∙_}
+use mathlib.Core.Path.{sym, ap, _∙_}
 use Rattle.codes.specs.Numbers.{statusNumber}
 use Rattle.witness.specs.Answers.{statusOf}
 use Rattle.codes.proofs.Told.{tell-refused, tell-value}

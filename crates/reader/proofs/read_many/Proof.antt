@@ -14,7 +14,7 @@ use Rattle.state.specs.State.{modelOf, withMember, withCheckpoint, withVote, st
 use Rattle.rules.specs.declared.Decision.{Decision}
 use Rattle.rules.specs.declared.Decision.the-variants.{Member, Checkpoint, Vote}
 use Rattle.state.specs.declared.Witness.{Witness}
-use Rattle.state.proofs.Held.{votes-held, all-held}
+use Rattle.state.proofs.Held.{keys-held, all-held}
 use Rattle.state.proofs.Ready.{few-members, few-checkpoints, few-votes, falling, low-heights}
 use Rattle.state.proofs.Stored.{checkpoint-stored}
 use Rattle.reader.specs.Many.{readMany}
@@ -136,7 +136,7 @@ loop-holds c =
     let start = index .before .before .before .before .before .before .before .before in
     let a = start .args in (
       none-yet (a .t1) (a .log .now) (a .at) (a .rows .now) (record { typed = start .pre .0; good = start .pre .1 }) (omega (arith, start .fits .at)),
-      record { indexed = index .index .ensures .0; votes = votes-held (a .t1) (index .index .ensures .1) },
+      record { indexed = index .index .ensures .0; votes = keys-held (a .t1) (index .index .ensures .1) },
     )
 
 slice-aggregate-decide-record : tie.Need-slice-aggregate-decide-record Inv-loop μ-loop

@@ -1,5 +1,4 @@
 -- `reader::read_record` meets its contract: reading on, where one record may be read. Assumes nothing.
-use Prim.Native.Nat.{ℕ}
 use mathlib.Core.Path.{_≡_, subst}
 use mathlib.Core.Bool.{Bool, true, false, cond}
 use borrow.Author.Needs.{needs}

@@ -9,7 +9,7 @@ use Rattle.model.specs.Answer.{row}
 use Rattle.model.specs.Limits.{voteLimit}
 use Rattle.model.specs.Lists.{anyBelow}
 use Rattle.model.specs.Model.{Model, Vote, voteHeld}
-use Rattle.state.specs.Tables.{VotesHeld}
+use Rattle.state.specs.Tables.{KeysHeld}
 use Rattle.rules.proofs.Decided.{places-rows, wrong-source, heights-agree}
 use Rattle.rules.proofs.decide_places.Statement.{statement}
 use Rattle.rules.proofs.decide_places.Tie as tie
@@ -20,7 +20,7 @@ vote c = let a = c .args in record { voter = a .id; source = a .s .0; target = a
 -- the numbers in chains say whether the vote is held
 held-is : (c : tie.After-number-linked) {m : Model}
     → let start = c .before .before .before .before .before .before .before .before .before .before .before .before .before .before .before .before .before in
-    VotesHeld m (start .args .keys .now) (start .args .votes) → voteHeld (m .votes) (vote start) ≡ c .number-linked .result
+    KeysHeld m (start .args .keys .now) (start .args .votes) → voteHeld (m .votes) (vote start) ≡ c .number-linked .result
 held-is c held =
     let a = c .before .before .before .before .before .before .before .before .before .before .before .before .before .before .before .before .before .args in
     let key = c .before .key .ensures in

@@ -90,7 +90,7 @@ returns-2 c =
     (sym (ap (λ (e : Endpoints). voteBetween m e (h .result) (k .result)) (found .id .given .1))
     ∙ ends ended m held (h .result) (k .result)
     ∙ ap₂ (decided start m) (h .ensures ∙ sym (field-at (a .at) 67 4 (a .log .now))) (k .ensures ∙ sym (field-at (a .at) 71 4 (a .log .now))))
-    (c .decide-places .ensures m (s start) (held .heights-held) (held .ancestors-held) (held .votes-held))
+    (c .decide-places .ensures m (s start) (held .heights-held) (held .ancestors-held) (held .keys-held))
 
 pub decide-vote-spec : {M : Type 1} → statement M
 decide-vote-spec =

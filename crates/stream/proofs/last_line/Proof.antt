@@ -1,6 +1,5 @@
 -- `stream::last_line` meets its contract. Assumes nothing.
 use Prim.Native.Nat.{_≤_}
-use native.Mathlib.Omega.{arith}
 use borrow.Author.Needs.{needs}
 use Rattle.stream.proofs.last_line.Statement.{statement}
 use Rattle.stream.proofs.last_line.Tie as tie

@@ -1,5 +1,5 @@
 -- `witness::conflict` meets its contract: row 40, then the conflict answer. Assumes nothing.
-use mathlib.Core.Path.{sym, ap, _∙_}
+use mathlib.Core.Path.{ap, _∙_}
 use borrow.Author.Needs.{needs}
 use Rattle.model.specs.Answer.{answer}
 use Rattle.witness.proofs.Guarded.{passes-40, meets-40, good-state}

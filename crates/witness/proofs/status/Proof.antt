@@ -1,5 +1,5 @@
 -- `witness::status` meets its contract: rows 40 and 41, then the status. Assumes nothing.
-use mathlib.Core.Path.{sym, ap, _∙_}
+use mathlib.Core.Path.{ap, _∙_}
 use borrow.Author.Needs.{needs}
 use borrow.Author.Tests.{lt-ltb, le-ltb}
 use Rattle.model.specs.Answer.{answer, row}

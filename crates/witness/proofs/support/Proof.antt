@@ -1,8 +1,7 @@
 -- `witness::support` meets its contract: rows 40 and 41, then the support. Assumes nothing.
-use mathlib.Core.Path.{sym, ap, _∙_}
+use mathlib.Core.Path.{ap, _∙_}
 use borrow.Author.Needs.{needs}
 use mathlib.Core.Path.{refl}
-use mathlib.Core.Bool.{_&&_}
 use borrow.Author.Tests.{lt-ltb, le-ltb}
 use Rattle.model.specs.Answer.{answer, row}
 use Rattle.witness.proofs.Guarded.{passes-40, meets-40, good-state}

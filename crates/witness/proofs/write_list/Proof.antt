@@ -1,5 +1,4 @@
 -- `witness::write_list` meets its contract: row 40, then the list writer. Assumes nothing.
-use mathlib.Core.Path.{sym, ap, _∙_}
 use borrow.Author.Needs.{needs}
 use Rattle.witness.proofs.Guarded.{passes-40, meets-40, good-state}
 use Rattle.witness.proofs.Placed.{list-40, list-is}
