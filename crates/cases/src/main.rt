@@ -1,22 +1,19 @@
-// The report of each log that an argument names, under the log's name, as the report program prints it. make.py makes the logs;
-// the stored output comes from another implementation.
-use libc::STDOUT_FILENO;
+// The report of each log that an argument names, under the log's name, as the report program prints it. make.py makes
+// the logs; the stored output comes from another implementation.
 use stream::Fate;
 
 // The report of the log in an open file.
 fn write_report(fd: i32) {
     let log = stream::read_log(fd, true);
     let fate = log.fate;
-    match fate {
-        Fate::Whole => stream::write_end(log),
-        Fate::Stopped => {}
-        Fate::Failed => {}
+    if let Fate::Whole = fate {
+        stream::write_end(log);
     }
 }
 
 fn show(path: &[u8]) {
-    io::write_all(STDOUT_FILENO, path);
-    io::write_all(STDOUT_FILENO, b"\n");
+    buffered::print(path);
+    buffered::print(b"\n");
     let fd = os::open_read(path);
     if fd < 0 {
         os::fail(path);

@@ -5,9 +5,7 @@ use stream::Fate;
 fn main() {
     let log = stream::read_log(STDIN_FILENO, true);
     let fate = log.fate;
-    match fate {
-        Fate::Whole => stream::write_end(log),
-        Fate::Stopped => {}
-        Fate::Failed => {}
+    if let Fate::Whole = fate {
+        stream::write_end(log);
     }
 }

@@ -1,19 +1,25 @@
-// Checks a list of charges, in the file that the first argument names, against a log on standard input: prints the sum of the
-// named bonds or the number of the refusal. Of a log that is stopped it says what the report says of the stop.
+// Checks a list of charges, in the file that the first argument names, against a log on standard input: prints the
+// sum of the named bonds or the number of the refusal. Of a log that is stopped it says what the report says of the
+// stop.
+use buffered::Filled;
 use checker::CheckAnswer;
-use libc::STDERR_FILENO;
 use libc::STDIN_FILENO;
-use libc::STDOUT_FILENO;
 use state::Witness;
 use stream::Fate;
 use stream::Log;
+ghost use Prim.Native.Nat.{_≤_};
+ghost use lib.ListN.{length};
+ghost use Rattle.io.specs.Counts.{Counts};
 
-fn say(words: &[u8], n: u64) {
-    io::write_all(STDOUT_FILENO, words);
-    io::print_decimal(STDOUT_FILENO, n);
-    if !io::write_all(STDOUT_FILENO, b"\n") {
-        os::fail(b"standard output");
-    }
+// A line of some words and a number.
+fn say(words: &[u8], n: u64)
+    requires { ⌜ length (now words) ≤ 16 ⌝ }
+{
+    let mut line = [0u8; 64];
+    let number = text::put(&mut line, 0, words);
+    let end = text::put_number(&mut line, number, n);
+    let whole = text::put(&mut line, end, b"\n");
+    buffered::print_front(&line, whole);
 }
 
 fn say_answer(w: Witness, list: &[u8]) {
@@ -23,18 +29,41 @@ fn say_answer(w: Witness, list: &[u8]) {
     }
 }
 
-// No list in the layout has more than 393,217 bytes, its count being of 16 bits; so one byte more is all that need be read to
-// refuse a longer one. A list that could not be read to its end is not judged.
+// The list to its end, or as much of it as the buffer takes. A proved loop has to end, and nothing says that a file
+// does: so it counts down from a number that no run uses up.
+fn read_list(fd: i32, path: &[u8], list: &mut [u8]) -> Filled
+    ensures { λ r. ⌜ Counts (r .have) (now (list .exit)) ⌝ }
+{
+    let mut all = Filled {
+        have: 0,
+        ended: false,
+        failed: false,
+    };
+    let mut turns = u64::MAX;
+    while 0 < turns {
+        let have = all.have;
+        if list.len() <= have {
+            return all;
+        }
+        if all.ended | all.failed {
+            return all;
+        }
+        all = buffered::fill(fd, path, list, have);
+        turns -= 1;
+    }
+    all
+}
+
+// No list in the layout has more than 393,217 bytes, its count being of 16 bits; so one byte more is all that need be
+// read to refuse a longer one. A list that could not be read to its end is not judged.
 fn check(log: Log, fd: i32, path: &[u8]) {
     let held = log.witness;
     let mut list = [0u8; 393218];
-    let n = io::read_full(fd, &mut list);
-    let mut one = [0u8; 1];
-    let more = libc::read(fd, &mut one);
-    if (more < 0) | ((0 < more) & (n < 393218)) {
-        os::fail(path);
+    let all = read_list(fd, path, &mut list);
+    if all.failed {
         return;
     }
+    let n = all.have;
     say_answer(held, &list[..n]);
 }
 
@@ -42,31 +71,36 @@ fn check(log: Log, fd: i32, path: &[u8]) {
 fn check_log(fd: i32, path: &[u8]) {
     let log = stream::read_log(STDIN_FILENO, false);
     let fate = log.fate;
-    match fate {
-        Fate::Whole => {
-            if log.left == 0 {
-                check(log, fd, path);
-            } else {
-                stream::write_end(log);
-            }
+    if let Fate::Whole = fate {
+        if log.left == 0 {
+            check(log, fd, path);
+        } else {
+            stream::write_end(log);
         }
-        Fate::Stopped => {}
-        Fate::Failed => {}
     }
 }
 
+fn check_file(path: &[u8]) {
+    let fd = os::open_read(path);
+    if fd < 0 {
+        os::fail(path);
+        return;
+    }
+    check_log(fd, path);
+    libc::close(fd);
+}
+
+// Where standard input is closed, the list would be opened under its number, and be taken for the log.
 fn main() {
     let mut path = io::buffer();
     let length = os::arg(1, &mut path);
     if os::errno() != 0 {
-        io::write_all(STDERR_FILENO, b"usage: ffw_check LIST < LOG\n");
+        buffered::complain(b"usage: ffw_check LIST < LOG\n");
         return;
     }
-    let fd = os::open_read(&path[..length]);
-    if fd < 0 {
-        os::fail(&path[..length]);
+    if !buffered::is_open(STDIN_FILENO) {
+        os::fail(b"log");
         return;
     }
-    check_log(fd, &path[..length]);
-    libc::close(fd);
+    check_file(&path[..length]);
 }

@@ -1,8 +1,7 @@
 -- `stream::call` meets its contract. Assumes nothing.
-use native.Mathlib.Omega.{arith}
+use mathlib.Core.Bool.{true, false}
 use borrow.Author.Needs.{needs}
-use lib.ListN.{length}
-use Rattle.report.proofs.Inside.{feed-passes, open-passes, written-fits}
+use Rattle.stream.proofs.Turning.{by-begun}
 use Rattle.stream.proofs.call.Statement.{statement}
 use Rattle.stream.proofs.call.Tie as tie
 
@@ -15,8 +14,8 @@ same-length c = search needs
 returns : tie.Need-returns
 returns c =
     let f = c .before .before in
-    let a = f .before .before .before .before .before .args in
-    (omega (arith, f .feed .ensures .next, feed-passes (length (a .output .now)) (a .w) (a .records) (a .input .now)), written-fits (f .feed .ensures))
+    let t = f .before .before in
+    by-begun (t .before .before .before .args .begun) _ _ _ _ _ true (t .if1 .taken) (f .feed .ensures)
 
 open-requires : tie.Need-open-requires
 open-requires c κs = search needs
@@ -27,8 +26,8 @@ same-length-2 c = search needs
 returns-2 : tie.Need-returns-2
 returns-2 c =
     let f = c .before .before in
-    let a = f .before .before .before .before .before .args in
-    (omega (arith, f .open .ensures .next, open-passes (a .at-end) (length (a .output .now)) (a .w) (a .input .now)), written-fits (f .open .ensures))
+    let e = f .before .before in
+    by-begun (e .before .before .before .args .begun) _ _ _ _ _ false (e .if1 .left) (f .«open» .ensures)
 
 pub call-spec : {M : Type 1} → statement M
 call-spec = tie.close (tie.spec feed-requires same-length returns open-requires same-length-2 returns-2)

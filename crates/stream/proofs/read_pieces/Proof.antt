@@ -1,22 +1,31 @@
--- `stream::read_pieces` is safe and ends: the bytes at hand lie in the buffer, and the turns count down. Assumes nothing.
+-- `stream::read_pieces` meets its contract, and ends: each turn is one more, and they count down. Assumes nothing.
 use Prim.Native.Nat.{_≤_}
-use mathlib.Core.Path.{_≡_}
+use native.Mathlib.Omega.{arith}
+use mathlib.Core.Path.{_≡_, refl}
+use mathlib.Core.List.{[]}
 use borrow.Author.Needs.{needs}
 use lib.ListN.{length}
+use Rattle.stream.specs.Reads.{at-start, Reads}
+use Rattle.stream.proofs.Turning.{turned}
 use Rattle.stream.proofs.read_pieces.Statement.{statement}
 use Rattle.stream.proofs.read_pieces.Tie as tie
 
 abbrev Inv-loop : tie.InvT-loop
-Inv-loop fd lines input₀ output₀ t₀ turns₀ input output t turns = (t .have ≤ length input) × (length input ≡ length input₀) × (length output ≡ length output₀)
+Inv-loop fd lines input₀ output₀ t₀ turns₀ input output t turns =
+    (t .have ≤ length input) × (75 ≤ length input) × (length input ≡ length input₀) × (length output ≡ length output₀) × Reads (length output₀) t input
 
 abbrev μ-loop : tie.MeasureT-loop
 μ-loop fd lines input₀ output₀ t₀ turns₀ input output t turns = turns
 
-blank-requires : tie.Need-blank-requires Inv-loop μ-loop
-blank-requires c κs = search needs
+start-requires : tie.Need-start-requires Inv-loop μ-loop
+start-requires c κs = search needs
 
 loop-holds : tie.Need-loop-holds Inv-loop μ-loop
-loop-holds c = search needs
+loop-holds c =
+    (omega (arith, c .start .ensures .have), omega (arith, c .before .before .before .pre), refl, refl, record { log = []; text = []; reached = at-start (c .start .ensures) })
+
+enum-told : tie.Need-enum-told Inv-loop μ-loop
+enum-told c = search needs
 
 same-length : tie.Need-same-length Inv-loop μ-loop
 same-length c = search needs
@@ -37,7 +46,11 @@ loop-less : tie.Need-loop-less Inv-loop μ-loop
 loop-less c = search needs
 
 loop-again : tie.Need-loop-again Inv-loop μ-loop
-loop-again c = search needs
+loop-again c =
+    let s = c .before .before .before .before in
+    let still = s .before .before .before in
+    let l = still .before .before .before .loop in
+    (search needs, search needs, search needs, search needs, turned _ (l .inv .3) (l .inv .4) (still .enum-told .given .1) (s .step .ensures))
 
 same-length-3 : tie.Need-same-length-3 Inv-loop μ-loop
 same-length-3 c = search needs
@@ -54,8 +67,9 @@ read-pieces-spec =
     (tie.spec
     Inv-loop
     μ-loop
-    blank-requires
+    start-requires
     loop-holds
+    enum-told
     same-length
     same-length-2
     returns

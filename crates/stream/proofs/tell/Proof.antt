@@ -1,53 +1,35 @@
--- `stream::tell` is safe: what is written out lies in the buffer. Assumes nothing.
-use mathlib.Core.Path.{sym}
-use lib.Seq.{length-take-le}
+-- `stream::tell` meets its contract. Assumes nothing.
+use mathlib.Core.Bool.{not}
 use borrow.Author.Needs.{needs}
+use Rattle.stream.proofs.Turning.{told}
 use Rattle.stream.proofs.tell.Statement.{statement}
 use Rattle.stream.proofs.tell.Tie as tie
 
-slice-aggregate-write-all : tie.Need-slice-aggregate-write-all
-slice-aggregate-write-all c =
-    let start = c .before .before .before in
-    sym (length-take-le (start .args .n) (start .args .output .now) (start .pre))
+enum-told : tie.Need-enum-told
+enum-told c = search needs
 
-write-all-requires : tie.Need-write-all-requires
-write-all-requires c κs = search needs
+slice-aggregate-complain : tie.Need-slice-aggregate-complain
+slice-aggregate-complain c = search needs
+
+complain-requires : tie.Need-complain-requires
+complain-requires c κs = search needs
+
+print-requires : tie.Need-print-requires
+print-requires c κs = search needs
+
+unless-failed-requires : tie.Need-unless-failed-requires
+unless-failed-requires c κs = search needs
 
 returns : tie.Need-returns
-returns c = search needs
-
-last-line-requires : tie.Need-last-line-requires
-last-line-requires c κs = search needs
-
-sub-write-all : tie.Need-sub-write-all
-sub-write-all c = search needs
-
-part-write-all-start : tie.Need-part-write-all-start
-part-write-all-start c = search needs
-
-part-write-all-end : tie.Need-part-write-all-end
-part-write-all-end c = search needs
-
-write-all-requires-2 : tie.Need-write-all-requires-2
-write-all-requires-2 c κs = search needs
-
-returns-2 : tie.Need-returns-2
-returns-2 c = search needs
-
-returns-3 : tie.Need-returns-3
-returns-3 c = search needs
+returns c = told (c .before .before .before .before .before .args .t) (not (c .before .before .print .result)) (c .unless-failed .result) (c .unless-failed .ensures)
 
 pub tell-spec : {M : Type 1} → statement M
 tell-spec =
     tie.close
     (tie.spec
-    slice-aggregate-write-all
-    write-all-requires
-    returns
-    last-line-requires
-    sub-write-all
-    part-write-all-start
-    part-write-all-end
-    write-all-requires-2
-    returns-2
-    returns-3)
+    enum-told
+    slice-aggregate-complain
+    complain-requires
+    print-requires
+    unless-failed-requires
+    returns)

@@ -1,16 +1,16 @@
--- `stream::keep` meets its contract. The loop's invariant: `i` bytes were moved, and those from there on are as they were.
+-- `buffered::keep` meets its contract. The loop's invariant: `i` bytes were moved, and those from there on are as they were.
 -- Assumes nothing.
 use Prim.Native.Nat.{ℕ, _+_, _-_, _≤_, _<_}
 use native.Mathlib.Omega.{arith}
-use mathlib.Core.Path.{_≡_, refl, _∙_, subst}
+use mathlib.Core.Path.{_≡_, refl, sym, _∙_, subst}
 use mathlib.Core.List.{List}
 use mathlib.Core.Logic.{⊎-elim}
 use borrow.Author.Needs.{needs}
-use lib.ListN.{length, getD, set, length-set}
-use lib.Seq.{getD-set-same, getD-set-other}
+use lib.ListN.{length, take, drop, getD, set, length-set, length-drop}
+use lib.Seq.{getD-set-same, getD-set-other, getD-take, getD-drop, length-take-le, ext-getD}
 use Rattle.model.proofs.Lists.{lt-or-ge}
-use Rattle.stream.proofs.keep.Statement.{statement}
-use Rattle.stream.proofs.keep.Tie as tie
+use Rattle.buffered.proofs.keep.Statement.{statement}
+use Rattle.buffered.proofs.keep.Tie as tie
 
 abbrev Inv-loop : tie.InvT-loop
 Inv-loop input₀ from have i₀ input i =
@@ -32,6 +32,18 @@ moved input input₀ from i inside front rest k h =
     subst (λ (j : ℕ). getD (set input i (getD input (from + i) 0)) j 0 ≡ getD input₀ (from + j) 0) here
     (getD-set-same input i (getD input (from + i) 0) 0 inside ∙ rest (from + i) (omega arith)))
     (lt-or-ge k i)
+
+-- all of them are moved
+front : (input input₀ : List ℕ) (from have i : ℕ) → from + i ≡ have → have ≤ length input₀ → length input ≡ length input₀
+    → ((k : ℕ) → k < i → getD input k 0 ≡ getD input₀ (from + k) 0)
+    → take i input ≡ drop from (take have input₀)
+front input input₀ from have i all inside same moved-before =
+    let left : length (take i input) ≡ i = length-take-le i input (omega arith) in
+    let right : length (drop from (take have input₀)) ≡ i = omega (arith, length-drop from (take have input₀), length-take-le have input₀ inside) in
+    ext-getD 0 (take i input) (drop from (take have input₀)) (left ∙ sym right)
+    (λ k h.
+    getD-take i input k 0 (omega arith) ∙ moved-before k (omega arith)
+    ∙ sym (getD-drop from (take have input₀) k 0 ∙ getD-take have input₀ (from + k) 0 (omega arith)))
 
 loop-holds : tie.Need-loop-holds Inv-loop μ-loop
 loop-holds c = (refl, omega (arith, c .pre), (λ k h. absurd (omega arith)), (λ k h. refl))
@@ -65,7 +77,12 @@ same-length : tie.Need-same-length Inv-loop μ-loop
 same-length c = search needs
 
 returns : tie.Need-returns Inv-loop μ-loop
-returns c = search needs
+returns c =
+    let l = c .before .loop in
+    let start = c .before .before in
+    let a = start .args in
+    let all : a .from + l .i ≡ a .have = omega (arith, c .loop-test .left) in
+    ((omega arith, omega (arith, l .inv .0, start .pre)), front (l .input) (a .input .now) (a .from) (a .have) (l .i) all (start .pre .1) (l .inv .0) (l .inv .2))
 
 pub keep-spec : {M : Type 1} → statement M
 keep-spec =

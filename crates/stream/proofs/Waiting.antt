@@ -1,0 +1,44 @@
+-- No call is missed where the bytes at hand are not worth one.
+use Prim.Native.Nat.{ℕ, _≤_, _<_}
+use native.Mathlib.Omega.{arith}
+use native.Mathlib.Numerals.{add-one}
+use mathlib.Core.Path.{_≡_, refl, sym, ap, _∙_}
+use mathlib.Core.List.{List, [], _∷_}
+use mathlib.Core.Bool.{Bool, true, false}
+use borrow.Author.Tests.{leb-false, le-ltb, ne-eqb}
+use lib.Dec.{eqb, ltb}
+use lib.ListN.{length}
+use Rattle.model.specs.Answer.{Answer, refused, answer}
+use Rattle.model.specs.Decide.{decide}
+use Rattle.model.specs.Log.{recordSize, recordLength}
+use Rattle.model.specs.Model.{Change, nothing}
+use Rattle.state.specs.State.{modelOf}
+use Rattle.state.specs.declared.Witness.{Witness}
+use Rattle.rules.proofs.ByKind.{Decided, nothing-left, cut-record}
+use Rattle.witness.specs.Calls.{sound?}
+use Rattle.report.specs.Feed.{wants, pausedAt, lineRoom, lastNumber, halted, feedFrom, onSound, feedCall}
+use Rattle.report.proofs.Pieces.{open-waits}
+use Rattle.buffered.specs.Hold.{whole?, ready?}
+use Rattle.stream.specs.Turns.{callOf, CallWaits}
+
+module _ (room : ℕ) (w : Witness) (k : ℕ) (s : List ℕ) (sound : sound? w ≡ true) (fits : lineRoom ≤ room) (numbered : k < lastNumber) where
+  -- where no record can be passed
+  feed-halts : (a : Answer Change) → Decided (modelOf w) s a 0 → halted a w k ≡ pausedAt [] wants w k → feedCall room w k s ≡ pausedAt [] wants w k
+  unfolding feedCall onSound feedFrom
+  feed-halts a is halts =
+      let roomy : ltb room lineRoom ≡ false = le-ltb room lineRoom fits in
+      let other : eqb k lastNumber ≡ false = ne-eqb k lastNumber (λ e. omega (arith, e, numbered)) in
+      rw (sound, add-one, roomy, other, is .passed, is .answer) halts
+
+feed-waits : (room : ℕ) (w : Witness) (k : ℕ) (s : List ℕ) → sound? w ≡ true → lineRoom ≤ room → k < lastNumber → whole? s ≡ false → feedCall room w k s ≡ pausedAt [] wants w k
+unfolding whole? halted
+feed-waits room w k [] sound fits numbered e = feed-halts room w k [] sound fits numbered (answer nothing) (nothing-left (modelOf w) 0 [] (omega arith)) refl
+feed-waits room w k (kind ∷ rest) sound fits numbered e =
+    let short : length (kind ∷ rest) < recordSize kind = leb-false (recordSize kind) (length (kind ∷ rest)) e in
+    feed-halts room w k (kind ∷ rest) sound fits numbered (refused 5)
+    (cut-record (modelOf w) 0 (kind ∷ rest) (omega arith) refl {n = recordSize kind} refl (omega (arith, short)) (omega (arith, short))) refl
+
+pub call-waits : CallWaits
+unfolding callOf ready?
+call-waits true room w k s sound fits numbered e = feed-waits room w k s sound fits numbered e
+call-waits false room w k s sound fits numbered e = open-waits room w s (omega (arith, leb-false 37 (length s) e))
