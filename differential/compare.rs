@@ -45,15 +45,16 @@ pub fn log(log: &[u8], before: &library::Witness, random: &mut Random, tally: &m
     Ok(replay)
 }
 
-// What is held: the members as a map, checkpoints and votes in their order.
+// What is held: members, checkpoints and votes, each in the order of acceptance.
 fn held(w: &library::Witness, r: &reference::Witness) -> Same {
     let members: Vec<(u16, u64)> = (0..w.member_count).map(|i| (w.ids[i], w.bonds[i])).collect();
-    same("members held", members.len(), r.bonds.len())?;
-    same("members", members.into_iter().collect(), r.bonds.clone())?;
+    same("members", members, r.members.iter().map(|id| (*id, r.bonds[id])).collect())?;
     same("checkpoints held", w.checkpoint_count, r.checkpoints.len())?;
+    let mut names = vec![[0; 32]; r.checkpoints.len()];
     for (name, place) in &r.places {
-        same("name", &w.names[32 * place..32 * place + 32], &name[..])?;
+        names[*place] = *name;
     }
+    same("names", &w.names[..32 * w.checkpoint_count], &names.concat()[..])?;
     for (place, c) in r.checkpoints.iter().enumerate() {
         same("height", w.heights[place], c.height)?;
         if let Some(parent) = c.parent {

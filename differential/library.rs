@@ -39,6 +39,10 @@ pub struct Begun {
     pub witness: Witness,
 }
 
+// A checkpoint's place, as the library takes it.
+#[repr(C)]
+struct Place(u16);
+
 #[repr(C)]
 pub struct Replay {
     pub header: u64,
@@ -70,8 +74,8 @@ extern "C" {
     fn ffw_replay(w: Witness, log: *const u8, length: usize, limit: u64) -> Replay;
     fn ffw_read(w: Witness, log: *const u8, length: usize, at: usize) -> Read;
     fn ffw_sound(w: Witness) -> bool;
-    fn ffw_status(w: Witness, place: u16) -> Answered;
-    fn ffw_support(w: Witness, source: u16, target: u16) -> Backed;
+    fn ffw_status(w: Witness, place: Place) -> Answered;
+    fn ffw_support(w: Witness, source: Place, target: Place) -> Backed;
     fn ffw_conflict(w: Witness) -> Answered;
     fn ffw_list(w: Witness, buffer: *mut u8, length: usize) -> Answered;
     fn ffw_check(w: Witness, list: *const u8, length: usize) -> Answered;
@@ -84,6 +88,7 @@ extern "C" {
 pub const WANTS: u64 = 0;
 pub const FULL: u64 = 1;
 pub const ENDED: u64 = 2;
+pub const OUT_OF_NUMBERS: u64 = 3;
 // .. and the number of the refusal.
 pub const REFUSED: u64 = 256;
 
@@ -147,12 +152,12 @@ impl Witness {
     }
 
     pub fn status(&self, place: u16) -> Answer<u64> {
-        answer(unsafe { ffw_status(*self, place) })
+        answer(unsafe { ffw_status(*self, Place(place)) })
     }
 
     // The number of members, the sum of their bonds, and 1 for a supermajority.
     pub fn support(&self, source: u16, target: u16) -> Answer<(u64, u64, u64)> {
-        let b = unsafe { ffw_support(*self, source, target) };
+        let b = unsafe { ffw_support(*self, Place(source), Place(target)) };
         if b.refused == 0 { Ok((b.number, b.bonds, b.quorum)) } else { Err(b.refused as u8) }
     }
 

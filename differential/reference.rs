@@ -53,6 +53,8 @@ pub struct Charge {
 #[derive(Clone)]
 pub struct Witness {
     pub bonds: BTreeMap<u16, u64>,
+    // the ids, in the order of acceptance
+    pub members: Vec<u16>,
     pub places: HashMap<Name, usize>,
     pub checkpoints: Vec<Checkpoint>,
     pub votes: Vec<Vote>,
@@ -158,6 +160,7 @@ impl Witness {
     fn with_root(root: Name) -> Witness {
         Witness {
             bonds: BTreeMap::new(),
+            members: Vec::new(),
             places: HashMap::from([(root, 0)]),
             checkpoints: vec![Checkpoint { parent: None, height: 0 }],
             votes: Vec::new(),
@@ -197,6 +200,7 @@ impl Witness {
             return Err(13);
         }
         self.bonds.insert(id, bond);
+        self.members.push(id);
         Ok(())
     }
 

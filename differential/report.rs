@@ -1,7 +1,7 @@
 // The report by the library: the log is fed in pieces, cut anywhere, into buffers with much room or little, and the text
 // is that of the reference's report.
 use crate::compare::{same, Same};
-use crate::library::{Piece, Witness, ENDED, FULL, WANTS};
+use crate::library::{Piece, Witness, ENDED, FULL, OUT_OF_NUMBERS, WANTS};
 use crate::random::Random;
 use crate::reference::{self, Reading, HEADER};
 
@@ -51,6 +51,17 @@ fn feed(log: &[u8], passed: &mut usize, end: usize, last: &Piece, random: &mut R
     Ok((piece, text))
 }
 
+// Where no record number is left nothing is read, whatever is there; a buffer without room is told first.
+fn no_number_left(rest: &[u8], last: &Piece) -> Same {
+    let mut buffer = [UNWRITTEN; LINE];
+    for (room, why) in [(LINE, OUT_OF_NUMBERS), (LINE - 1, FULL)] {
+        let piece = last.witness.feed(u64::MAX, rest, 0, &mut buffer[..room]);
+        let told = (piece.pause, piece.next, piece.records, piece.written, piece.witness == last.witness);
+        same("no number left", told, (why, 0, u64::MAX, 0, true))?;
+    }
+    same("no number, no text", buffer, [UNWRITTEN; LINE])
+}
+
 // The log's end, into a buffer with much room, one that is just long enough and one that is a byte too short.
 fn close(log: &[u8], passed: usize, last: &Piece) -> Result<Vec<u8>, String> {
     let mut buffer = vec![UNWRITTEN; SUMMARY];
@@ -74,6 +85,9 @@ fn fed(log: &[u8], before: &Witness, random: &mut Random) -> Result<Vec<u8>, Str
     while piece.pause == WANTS && piece.next == 0 {
         end = next_end(log, end, random);
         (piece, text) = open(&log[..end], end == log.len(), before)?;
+    }
+    if piece.pause != ENDED {
+        no_number_left(&log[piece.next..end], &piece)?;
     }
     let mut passed = piece.next;
     while piece.pause != ENDED {

@@ -13,7 +13,7 @@ use Rattle.state.specs.State.{store}
 use Rattle.state.specs.declared.Witness.{Witness}
 use Rattle.text.specs.Put.{Put}
 use Rattle.guarantee.specs.LogRead.{Reads}
-use Rattle.report.specs.Feed.{Paused, wants, full, ended, refusedBy, Feeding}
+use Rattle.report.specs.Feed.{Paused, wants, full, outOfNumbers, ended, refusedBy, Feeding}
 use Rattle.codes.specs.declared.Answered.{Answered}
 use Rattle.codes.specs.declared.Backed.{Backed}
 use Rattle.codes.specs.declared.Begun.{Begun}
@@ -50,6 +50,7 @@ abbrev pub pauseNumber : Paused → ℕ
 pauseNumber wants = 0
 pauseNumber full = 1
 pauseNumber ended = 2
+pauseNumber outOfNumbers = 3
 pauseNumber (refusedBy n) = 256 + n
 
 pub record IsAnswered {A : Type 0} (number : A → ℕ) (a : Answer A) (r : Answered) : Type 0 where

@@ -37,8 +37,8 @@ pub struct Begun {
     pub witness: Witness,
 }
 
-// What the header came to, and the last record read, `taken` being 1 where it was taken; how many records were read; the
-// witness afterwards.
+// What the header came to, and the last record read, `taken` being 1 where it was taken; how many records were read;
+// the witness afterwards.
 #[repr(C)]
 pub struct Replay {
     pub header: u64,
@@ -57,9 +57,9 @@ pub struct Read {
     pub witness: Witness,
 }
 
-// Why a call for the report paused: 0 for more of the log, 1 for a buffer with more room (or no record number is left), 2 at the
-// report's end, and 256 and the number of a refusal. Then the offset reached, the number of the next record, how many bytes were
-// written, and the witness afterwards.
+// Why a call for the report paused: 0 for more of the log, 1 for a buffer with more room, 2 at the report's end, 3
+// where no record number is left, and 256 plus the number of the refusal. Then the offset reached, the number of the next
+// record, how many bytes were written, and the witness afterwards.
 #[repr(C)]
 pub struct Piece {
     pub pause: u64,
@@ -130,6 +130,7 @@ pub fn pause_number(p: Pause) -> u64
         Pause::Wants => 0,
         Pause::Full => 1,
         Pause::Ended => 2,
+        Pause::OutOfNumbers => 3,
         Pause::Refused(r) => 256 + refusals::refusal_number(r) as u64,
     }
 }

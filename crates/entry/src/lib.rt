@@ -68,7 +68,8 @@ pub fn find_pair<'a>(
 ) -> Found
     requires { ⌜ (members ≤ length (now ids)) × (votes ≤ length (now voters)) × (at + 6 ≤ length (now list)) ⌝ }
     ensures { λ r. ⌜
-        ((m : Model) → MembersHeld m (now (ids .entry)) members → VotersHeld m (now (voters .entry)) votes → FoundIs m floor (entryAt at (now (list .entry))) r)
+        ((m : Model) → MembersHeld m (now (ids .entry)) members → VotersHeld m (now (voters .entry)) votes → FoundIs m
+        floor (entryAt at (now (list .entry))) r)
         ⌝ }
 {
     let id = wire::be16(list, at);

@@ -32,7 +32,7 @@ abbrev pub listAnswerOf : ListAnswer → Answer ℕ
 listAnswerOf (Length n) = answer n
 listAnswerOf (Refused r) = refused (refusalNumber r)
 
--- A list written into a lent buffer. "60: buffer shorter than our list", which "leaves the buffer unwritten"; else the
+-- A list written into a lent buffer. Row 60, "buffer shorter than our list", "leaves the buffer unwritten"; else the
 -- answer is the list's length, and the buffer is the list and, past it, what it was.
 pub record Written (list before : List ℕ) (r : ListAnswer) (after : List ℕ) : Type 0 where
   pub answered : listAnswerOf r ≡ row 60 (ltb (length before) (length list)) (answer (length list))

@@ -1,4 +1,5 @@
-// The public calls for a caller in Rust or C. Each asks nothing of its caller: the state handed in is checked by row 40.
+// The public calls for a caller in Rust or C. Each asks nothing of its caller: the state handed in is checked by row
+// 40.
 use checker::CheckAnswer;
 use codes::Answered;
 use codes::Backed;
@@ -17,10 +18,12 @@ ghost use Prim.Native.Nat.{_+_};
 ghost use lib.ListN.{length, drop};
 ghost use Rattle.model.specs.Log.{header};
 ghost use Rattle.state.specs.Reading.{beginWith};
-ghost use Rattle.witness.specs.Calls.{sound?, decided, passed, checkCall, statusCall, supportCall, conflictCall, listCall, listBuffer};
+ghost use Rattle.witness.specs.Calls.{sound?, decided, passed, checkCall, statusCall, supportCall, conflictCall};
+ghost use Rattle.witness.specs.Calls.{listCall, listBuffer};
 ghost use Rattle.guarantee.specs.LogRead.{replayed};
 ghost use Rattle.report.specs.Feed.{openCall, feedCall, endCall};
-ghost use Rattle.codes.specs.Numbers.{statusNumber, yesNumber, IsAnswered, IsBacked, IsBegun, IsRead, IsReplayed, IsPiece};
+ghost use Rattle.codes.specs.Numbers.{statusNumber, yesNumber, IsAnswered, IsBacked, IsBegun, IsRead, IsReplayed};
+ghost use Rattle.codes.specs.Numbers.{IsPiece};
 
 // Reading a header: rows 1 to 3. Any state is taken; a refusal leaves it as it was.
 #[no_mangle]
@@ -36,10 +39,13 @@ pub extern "C" fn ffw_begin(w: Witness, log: &[u8]) -> Begun
     }
 }
 
-// A log from its header to its end or its stop, or its first `limit` records, into the empty witness of its header.
+// A log from its header to its end or its stop, or its first `limit` records, into the empty witness of its header; a
+// refused header leaves the state handed in.
 #[no_mangle]
 pub extern "C" fn ffw_replay(w: Witness, log: &[u8], limit: u64) -> Replay
-    ensures { λ r. ⌜ IsReplayed (header (now (log .entry))) (replayed w (now (log .entry)) limit (header (now (log .entry)))) r ⌝ }
+    ensures { λ r. ⌜
+        IsReplayed (header (now (log .entry))) (replayed w (now (log .entry)) limit (header (now (log .entry)))) r
+        ⌝ }
 {
     let replayed = guarantee::replay(w, log, limit);
     let start = replayed.start;
@@ -60,7 +66,9 @@ pub extern "C" fn ffw_replay(w: Witness, log: &[u8], limit: u64) -> Replay
 // Reading the record at an offset of a log: rows 40, 4, 5 and 10 to 36; nothing left at or past the end.
 #[no_mangle]
 pub extern "C" fn ffw_read(w: Witness, log: &[u8], at: usize) -> Read
-    ensures { λ r. ⌜ IsRead w (decided w (drop at (now (log .entry)))) (at + passed w (drop at (now (log .entry)))) r ⌝ }
+    ensures { λ r. ⌜
+        IsRead w (decided w (drop at (now (log .entry)))) (at + passed w (drop at (now (log .entry)))) r
+        ⌝ }
 {
     let reading = witness::read(w, log, at);
     let outcome = reading.outcome;
@@ -85,10 +93,10 @@ pub extern "C" fn ffw_sound(w: Witness) -> bool
 
 // The standing of a checkpoint: 0 plain, 1 justified, 2 final; rows 40 and 41.
 #[no_mangle]
-pub extern "C" fn ffw_status(w: Witness, place: u16) -> Answered
-    ensures { λ r. ⌜ IsAnswered statusNumber (statusCall w place) r ⌝ }
+pub extern "C" fn ffw_status(w: Witness, place: Place) -> Answered
+    ensures { λ r. ⌜ IsAnswered statusNumber (statusCall w (place .0)) r ⌝ }
 {
-    match witness::status(w, Place(place)) {
+    match witness::status(w, place) {
         StatusAnswer::Is(s) => Answered {
             refused: 0,
             value: codes::status_number(s),
@@ -102,16 +110,20 @@ pub extern "C" fn ffw_status(w: Witness, place: u16) -> Answered
 
 // The backing of a link between two held places; rows 40 and 41.
 #[no_mangle]
-pub extern "C" fn ffw_support(w: Witness, source: u16, target: u16) -> Backed
-    ensures { λ r. ⌜ IsBacked (supportCall w source target) r ⌝ }
+pub extern "C" fn ffw_support(w: Witness, source: Place, target: Place) -> Backed
+    ensures { λ r. ⌜ IsBacked (supportCall w (source .0) (target .0)) r ⌝ }
 {
-    match witness::support(w, Place(source), Place(target)) {
-        SupportAnswer::Is(b) => Backed {
-            refused: 0,
-            number: b.number as u64,
-            bonds: b.bonds,
-            quorum: b.quorum as u64,
-        },
+    match witness::support(w, source, target) {
+        SupportAnswer::Is(b) => {
+            let number = b.number as u64;
+            let quorum = b.quorum as u64;
+            Backed {
+                refused: 0,
+                number,
+                bonds: b.bonds,
+                quorum,
+            }
+        }
         SupportAnswer::Refused(r) => Backed {
             refused: codes::number(r),
             number: 0,
@@ -175,20 +187,24 @@ pub extern "C" fn ffw_check(w: Witness, list: &[u8]) -> Answered
     }
 }
 
-// The report of a log, fed in pieces: its first bytes, the header among them; `last` says that the log has no more. Any state
-// is taken.
+// The report of a log, fed in pieces: its first bytes, the header among them; `last` says that the log has no more. Any
+// state is taken.
 #[no_mangle]
 pub extern "C" fn ffw_open(w: Witness, log: &[u8], last: bool, buf: &mut [u8]) -> Piece
-    ensures { λ r. ⌜ IsPiece (openCall last (length (now (buf .entry))) w (now (log .entry))) 0 (now (buf .entry)) r (now (buf .exit)) ⌝ }
+    ensures { λ r. ⌜
+        IsPiece (openCall last (length (now (buf .entry))) w (now (log .entry))) 0 (now (buf .entry)) r
+        (now (buf .exit))
+        ⌝ }
 {
     codes::in_numbers(report::open(w, log, last, buf))
 }
 
-// The records of a piece from `at` on.
+// The records of a piece from `at` on; row 40.
 #[no_mangle]
 pub extern "C" fn ffw_feed(w: Witness, records: u64, log: &[u8], at: usize, buf: &mut [u8]) -> Piece
     ensures { λ r. ⌜
-        IsPiece (feedCall (length (now (buf .entry))) w records (drop at (now (log .entry)))) at (now (buf .entry)) r (now (buf .exit))
+        IsPiece (feedCall (length (now (buf .entry))) w records (drop at (now (log .entry)))) at (now (buf .entry)) r
+        (now (buf .exit))
         ⌝ }
 {
     codes::in_numbers(report::feed(w, records, log, at, buf))
@@ -197,7 +213,9 @@ pub extern "C" fn ffw_feed(w: Witness, records: u64, log: &[u8], at: usize, buf:
 // The end of the log, where `left` of its bytes were not passed.
 #[no_mangle]
 pub extern "C" fn ffw_close(w: Witness, records: u64, left: usize, buf: &mut [u8]) -> Piece
-    ensures { λ r. ⌜ IsPiece (endCall (length (now (buf .entry))) w records left) 0 (now (buf .entry)) r (now (buf .exit)) ⌝ }
+    ensures { λ r. ⌜
+        IsPiece (endCall (length (now (buf .entry))) w records left) 0 (now (buf .entry)) r (now (buf .exit))
+        ⌝ }
 {
     codes::in_numbers(report::close(w, records, left, buf))
 }

@@ -1,5 +1,5 @@
 -- The conflict answer of a witness, from the analysis of its model.
-use Prim.Native.Nat.{ℕ, suc, _-_}
+use Prim.Native.Nat.{ℕ, suc, _+_}
 use native.Mathlib.Omega.{arith}
 use mathlib.Core.Path.{_≡_, refl, sym, ap, _∙_}
 use mathlib.Core.Bool.{Bool, false, _&&_, not}
@@ -30,16 +30,18 @@ module _ (w : Witness) (sound : Sound w) where
   unfolding modelOf
   same-tree a b = tree-tabulate (w .«checkpoint_count») (w .parents) (checkpointIn w) (λ i h. refl) a b
 
-  module _ (a : Analysis) (is : IsAnalysis (modelOf w) a) (last : ℕ) (at : last ≡ lastBelow (w .«checkpoint_count») (isFinal a)) where
-    found : lastBelow (length (modelOf w .checkpoints)) (isFinal a) ≡ last
-    found = ap (λ (n : ℕ). lastBelow n (isFinal a)) (count-checkpoints w) ∙ sym at
+  module _ (a : Analysis) (is : IsAnalysis (modelOf w) a) where
+    found : {last : ℕ} → last ≡ lastBelow (w .«checkpoint_count») (isFinal a) → lastBelow (length (modelOf w .checkpoints)) (isFinal a) ≡ last
+    found at = ap (λ (n : ℕ). lastBelow n (isFinal a)) (count-checkpoints w) ∙ sym at
 
-    pub none-conflict : last ≡ 0 → false ≡ conflicting? (modelOf w)
-    none-conflict z = no-final (modelOf w) (sound .good) (isFinal a) (is-final (modelOf w) a is) (found ∙ z)
+    pub none-conflict : 0 ≡ lastBelow (w .«checkpoint_count») (isFinal a) → false ≡ conflicting? (modelOf w)
+    none-conflict at = no-final (modelOf w) (sound .good) (isFinal a) (is-final (modelOf w) a is) (found at)
 
-    pub some-conflict : {r : Bool} → (last ≡ 0 → ⊥) → r ≡ anyBelow (last - 1) (λ p. isFinal a p && not (ancestor? (treeOf (w .«checkpoint_count») (w .parents)) p (last - 1))) → r ≡ conflicting? (modelOf w)
-    some-conflict z e =
+    pub some-conflict : (f : ℕ) {r : Bool} → f + 1 ≡ lastBelow (w .«checkpoint_count») (isFinal a)
+        → r ≡ anyBelow f (λ p. isFinal a p && not (ancestor? (treeOf (w .«checkpoint_count») (w .parents)) p f)) → r ≡ conflicting? (modelOf w)
+    some-conflict f at e =
+        let one : f + 1 ≡ suc f = omega arith in
         e
-        ∙ any-same (last - 1) (λ p. isFinal a p && not (ancestor? (treeOf (w .«checkpoint_count») (w .parents)) p (last - 1))) (λ p. isFinal a p && not (ancestor? (modelOf w .checkpoints) p (last - 1)))
-        (λ p h. ap (λ (b : Bool). isFinal a p && not b) (same-tree p (last - 1)))
-        ∙ some-final (modelOf w) (sound .good) (isFinal a) (is-final (modelOf w) a is) (last - 1) (found ∙ (let q : last ≡ suc (last - 1) = omega arith in q))
+        ∙ any-same f (λ p. isFinal a p && not (ancestor? (treeOf (w .«checkpoint_count») (w .parents)) p f)) (λ p. isFinal a p && not (ancestor? (modelOf w .checkpoints) p f))
+        (λ p h. ap (λ (b : Bool). isFinal a p && not b) (same-tree p f))
+        ∙ some-final (modelOf w) (sound .good) (isFinal a) (is-final (modelOf w) a is) f (found at ∙ one)

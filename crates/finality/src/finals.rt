@@ -1,26 +1,35 @@
 // The final checkpoints of an analysis, and whether two of them conflict.
+use model::MAX_CHECKPOINTS;
 use model::Place;
 use standing::Analysis;
 ghost use mathlib.Core.Path.{_≡_};
 ghost use mathlib.Core.Bool.{_&&_, not};
 ghost use Prim.Native.Nat.{_≤_, _<_};
+ghost use Rattle.model.specs.Limits.{checkpointLimit};
 ghost use Rattle.model.specs.Lists.{anyBelow};
 ghost use Rattle.model.specs.Tree.{ancestor?};
 ghost use Rattle.tables.specs.Places.{treeOf, Falling};
 ghost use Rattle.search.specs.Chains.{lastBelow};
 ghost use Rattle.standing.specs.Answers.{isFinal};
+ghost use Rattle.finality.specs.Answers.{lastOf};
 
-// The greatest final place plus 1; 0 where none is final.
-pub fn last_final(a: Analysis, places: usize) -> usize
-    requires { ⌜ places ≤ 512 ⌝ }
-    ensures { λ r. ⌜ r ≡ lastBelow places (isFinal a) ⌝ }
+// The greatest final place, where there is one.
+pub enum LastFinal {
+    Nowhere,
+    At(Place),
+}
+
+pub fn last_final(a: Analysis, places: usize) -> LastFinal
+    requires { ⌜ places ≤ checkpointLimit ⌝ }
+    ensures { λ r. ⌜ lastOf r ≡ lastBelow places (isFinal a) ⌝ }
 {
-    let mut last: usize = 0;
+    let mut last = LastFinal::Nowhere;
     let mut p: usize = 0;
     while p < places {
         let fin = a.justified[p] & a.finalizing[p];
         if fin {
-            last = p + 1;
+            let here = p as u16;
+            last = LastFinal::At(Place(here));
         }
         p += 1;
     }
@@ -28,8 +37,8 @@ pub fn last_final(a: Analysis, places: usize) -> usize
 }
 
 // Whether some final place below f is no ancestor of f.
-pub fn strays(a: Analysis, parents: [Place; 512], places: usize, f: Place) -> bool
-    requires { ⌜ (places ≤ 512) × (f .0 < places) × Falling places parents ⌝ }
+pub fn strays(a: Analysis, parents: [Place; MAX_CHECKPOINTS], places: usize, f: Place) -> bool
+    requires { ⌜ (places ≤ checkpointLimit) × (f .0 < places) × Falling places parents ⌝ }
     ensures { λ r. ⌜ r ≡ anyBelow (f .0) (λ p. isFinal a p && not (ancestor? (treeOf places parents) p (f .0))) ⌝ }
 {
     let mut p: u16 = 0;

@@ -1,7 +1,9 @@
-// What the witness answers of finality: the backing of a link, the standing of a checkpoint, and the conflict of finals.
-// Every answer takes a sound state: arrays of their types, and a model in which all that is held is well-formed.
+// What the witness answers of finality: the backing of a link, the standing of a checkpoint, and the conflict of
+// finals. Every answer takes a sound state: arrays of their types, and a model in which all that is held is
+// well-formed.
 pub mod finals;
 
+use crate::finals::LastFinal;
 use model::Place;
 use model::Status;
 use standing::status_of;
@@ -55,7 +57,8 @@ pub fn status(w: Witness, p: Place) -> Status
     status_of(statuses(w), p)
 }
 
-// Whether any two final checkpoints conflict: whether some final place is neither the greatest of them nor its ancestor.
+// Whether any two final checkpoints conflict: whether some final place is neither the greatest of them nor its
+// ancestor.
 pub fn conflict(w: Witness) -> bool
     requires { ⌜ Sound w ⌝ }
     ensures { λ r. ⌜ r ≡ conflicting? (modelOf w) ⌝ }
@@ -63,9 +66,8 @@ pub fn conflict(w: Witness) -> bool
     let places = w.checkpoint_count;
     let parents = w.parents;
     let a = statuses(w);
-    let last = finals::last_final(a, places);
-    if last == 0 {
-        return false;
+    match finals::last_final(a, places) {
+        LastFinal::Nowhere => false,
+        LastFinal::At(f) => finals::strays(a, parents, places, f),
     }
-    finals::strays(a, parents, places, Place((last - 1) as u16))
 }

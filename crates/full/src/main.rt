@@ -1,10 +1,9 @@
-// A witness filled to its limits: a log made by a formula, with 128 members, 512 checkpoints, 4,096 votes and one more of
-// each, is read whole and asked. The formula gives the byte at each offset. The file `stdout` is what expected.py prints,
-// which makes the same log by the same formula and answers by code of its own.
+// A witness filled to its limits: a log made by a formula, with 128 members, 512 checkpoints, 4,096 votes and one more
+// of each, is read whole and asked. The formula gives the byte at each offset. The file `stdout` is what expected.py
+// prints, which makes the same log by the same formula and answers by code of its own.
 use checker::CheckAnswer;
 use evidence::ListAnswer;
 use libc::STDOUT_FILENO;
-use model::Height;
 use model::Place;
 use model::Refusal;
 use model::Status;

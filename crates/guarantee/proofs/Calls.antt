@@ -17,8 +17,9 @@ use Rattle.model.specs.Run.{Told, nothingLeft, told}
 use Rattle.model.proofs.Lists.{clash, lt-or-ge}
 use Rattle.state.specs.Reading.{outcomeOf}
 use Rattle.state.specs.State.{modelOf, store}
+use Rattle.state.specs.declared.Outcome.{Outcome}
 use Rattle.state.specs.declared.Witness.{Witness}
-use Rattle.reader.specs.Many.{readMany, lastTold, IsBatch}
+use Rattle.reader.specs.Many.{Ended, readMany, lastTold, endOf, endedTold, IsBatch}
 use Rattle.reader.specs.declared.Batch.{Batch}
 use Rattle.reader.proofs.Made.{length-inside, while-passed, many-ends}
 use Rattle.reader.proofs.Runs.{last-is, any-last}
@@ -91,11 +92,12 @@ module _ {whole : Reads} {limit : ℕ} {log : List ℕ} {t : Answer Told} {k : �
       (any-last t (answer nothingLeft) (readMany n w log at .passed) (omega (arith, call .is .records)) ∙ sym (call .is .last)) so-far
 
   -- where it ended before its rows and the log do, a record that cannot be passed is there
-  pub stopped : r .records < n → r .next < length log → record { last = outcomeOf (r .end); records = k + r .records + 1; witness = r .witness } ≡ whole
-  stopped short inside =
+  pub stopped : (o : Outcome) (u : Answer Told) → outcomeOf o ≡ endedTold (endOf (r .end)) u → r .records < n → r .next < length log
+      → record { last = outcomeOf o; records = k + r .records + 1; witness = r .witness } ≡ whole
+  stopped o u says short inside =
       let here = many-ends log n w at .here (omega (arith, call .is .records)) in
       let none : recordLength (drop (r .next) log) ≡ 0 = ap (λ (p : ℕ). recordLength (drop p log)) (call .is .next) ∙ here .0 in
-      let said : outcomeOf (r .end) ≡ told (decide (modelOf (r .witness)) (drop (r .next) log)) =
-      call .is .end ∙ here .1 ∙ (λ i. told (decide (modelOf (sym (call .is .witness) i)) (drop (sym (call .is .next) i) log)))
+      let said : outcomeOf o ≡ told (decide (modelOf (r .witness)) (drop (r .next) log)) =
+      says ∙ ap (λ (e : Ended). endedTold e u) (call .is .end ∙ here .1) ∙ (λ i. told (decide (modelOf (sym (call .is .witness) i)) (drop (sym (call .is .next) i) log)))
       in
       ap (λ (u : Answer Told). record { last = u; records = k + r .records + 1; witness = r .witness }) said ∙ stops-here so-far inside (omega (arith, call .few)) none

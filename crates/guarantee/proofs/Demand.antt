@@ -34,7 +34,7 @@ use Rattle.guarantee.specs.Demand2.{ByTheRules, Demand2}
 use Rattle.guarantee.specs.Demand3.{witnessAfter, toldOf, Guarantee, Demand3}
 use Rattle.guarantee.specs.LogRead.{recordsOf, replayed, LogIsRun, LogIsWhole}
 
-good-sound : (w : Witness) → WellFormed rootHeight (modelOf w) → sound? w ≡ true
+pub good-sound : (w : Witness) → WellFormed rootHeight (modelOf w) → sound? w ≡ true
 unfolding sound?
 good-sound w good = true-well-formed rootHeight (modelOf w) good
 
@@ -44,7 +44,7 @@ pub record Holds (w : Witness) (b : Model) : Type 0 where
   pub typed : Typed w
   pub good : WellFormed rootHeight b
 
-well-formed : (w : Witness) (b : Model) → Holds w b → WellFormed rootHeight (modelOf w)
+pub well-formed : (w : Witness) (b : Model) → Holds w b → WellFormed rootHeight (modelOf w)
 well-formed w b h = subst (WellFormed rootHeight) (sym (h .model)) (h .good)
 
 -- what the call decides is what the model decides

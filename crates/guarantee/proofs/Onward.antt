@@ -35,7 +35,7 @@ use Rattle.reader.proofs.Runs.{Sound, bytes-left, reading-sound}
 use Rattle.reader.proofs.Made.{stays}
 use Rattle.guarantee.proofs.Demand.{Holds, decided-is, start-holds}
 
-holds : (w : Witness) → Sound w → Holds w (modelOf w)
+pub holds : (w : Witness) → Sound w → Holds w (modelOf w)
 holds w sound = record { model = refl; typed = sound .typed; good = sound .good }
 
 -- a reading, and then the others

@@ -27,7 +27,8 @@ unfoldable pub toldOf : Witness → List Event → List (Answer Told)
 toldOf w [] = []
 toldOf w (reading s ∷ es) = told (decided w s) ∷ toldOf (store w (decided w s)) es
 
--- `w` is the witness and `b` the model after the run, as Demand3 below and LogIsRun in LogRead.antt have them
+-- `w` is the witness and `b` the model after the run, as Demand3 below, LogIsRun in LogRead.antt, and PiecesRun and RunOn in
+-- CallsAreRuns.antt have them
 pub record Guarantee (name : List ℕ) (es : List Event) (w : Witness) (b : Model) : Type 0 where
   -- "each record was taken, or refused with the same number"; 40 never occurs, as the book has no such row
   pub outcomes-agree : toldOf (emptyWitness name) es ≡ map told (outcomes (start name) es)

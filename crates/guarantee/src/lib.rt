@@ -1,5 +1,5 @@
-// Demand 3 as one theorem about every run: the statement is in specs/, its proof in proofs/. What stands here ties it to
-// code: a log read from its header on, so many of its records as are asked for, to its end or its stop.
+// Demand 3 as one theorem about every run: the statement is in specs/, its proof in proofs/. What stands here ties it
+// to code: a log read from its header on, so many of its records as are asked for, to its end or its stop.
 use checker::CheckAnswer;
 use evidence::ListAnswer;
 use model::Place;
@@ -38,8 +38,9 @@ fn batch(most: u64) -> usize
     1024
 }
 
-// The records from an offset on, at most `limit` of them, to the log's end or to the first that is unknown or cut, which
-// reading does not pass. They are read in batches; one that ends before its rows and the log do ended at such a record.
+// The records from an offset on, at most `limit` of them, to the log's end or to the first that is unknown or cut,
+// which reading does not pass. They are read in batches; one with rows left over, short of the log's end,
+// stopped at such a record.
 fn read_rest(w: Witness, log: &[u8], from: usize, limit: u64) -> Read
     requires { ⌜ Typed w × WellFormed rootHeight (modelOf w) ⌝ }
     ensures { λ r. ⌜ readOf r ≡ readOn (answer nothingLeft) 0 w (readings limit (drop from (now (log .entry)))) ⌝ }
@@ -51,16 +52,17 @@ fn read_rest(w: Witness, log: &[u8], from: usize, limit: u64) -> Read
     let mut rows = [0u8; 1024];
     while (at < log.len()) & (records < limit) {
         let most = batch(limit - records);
-        let r = reader::read_many(held, log, at, &mut rows[..most]);
+        let r = log_reader::read_from(held, log, at, &mut rows[..most]);
         held = r.witness;
         at = r.next;
         last = r.last;
         records += r.records as u64;
         if (r.records < most) & (at < log.len()) {
             let end = r.end;
+            let stopped = records + 1;
             return Read {
-                last: end,
-                records: records + 1,
+                last: reader::ended_by(end, last),
+                records: stopped,
                 witness: held,
             };
         }
@@ -72,14 +74,15 @@ fn read_rest(w: Witness, log: &[u8], from: usize, limit: u64) -> Read
     }
 }
 
-// What the header came to, and the records after it; where the header is refused, none is read and the witness is the one
-// handed in.
+// What the header came to, and the records after it; where the header is refused, none is read and the witness is the
+// one handed in.
 pub struct Replayed {
     pub start: Start,
     pub read: Read,
 }
 
-// A log from its header to its end or its stop, or to its first `limit` records: rows 1 to 3, then every record in turn.
+// A log from its header to its end or its stop, or to its first `limit` records: rows 1 to 3, then every record in
+// turn.
 pub fn replay(w: Witness, log: &[u8], limit: u64) -> Replayed
     ensures { λ r. ⌜ IsReplay w (now (log .entry)) limit r ⌝ }
 {
@@ -116,8 +119,8 @@ pub struct Answers {
     pub theirs: CheckAnswer,
 }
 
-// A log read from its header to its end or its stop, or to its first `limit` records, then asked; our list goes into `buf`.
-// The witness handed in plays no part.
+// A log read from its header to its end or its stop, or to its first `limit` records, then asked; our list goes into
+// `buf`. The witness handed in plays no part.
 pub fn ask(w: Witness, log: &[u8], limit: u64, p: Place, theirs: &[u8], buf: &mut [u8]) -> Answers
     ensures { λ r. ⌜
         IsAnswers (now (log .entry)) limit (p .0) (now (theirs .entry)) (now (buf .entry)) r

@@ -18,7 +18,8 @@ ghost use Rattle.text.specs.Put.{Put};
 fn pair<'a>(buf: &mut [u8], at: usize, first: &'a [u8], m: u64, second: &'a [u8], n: u64) -> usize
     requires { ⌜ at + (length (now first) + length (now second) + 40) ≤ length (now buf) ⌝ }
     ensures { λ r. ⌜
-        Put (now (buf .entry)) at (now (first .entry) ++ decimal m ++ now (second .entry) ++ decimal n) (now (buf .exit)) r
+        Put (now (buf .entry)) at (now (first .entry) ++ decimal m ++ now (second .entry) ++ decimal n)
+        (now (buf .exit)) r
         × (r ≤ at + (length (now (first .entry)) + length (now (second .entry)) + 40))
         ⌝ }
 {
@@ -75,7 +76,9 @@ pub fn clear_line(buf: &mut [u8], at: usize, id: u16, bond: u64) -> usize
 // The line of a member who broke a rule, with the numbers of the two votes.
 pub fn broken_line(buf: &mut [u8], at: usize, id: u16, bond: u64, i: u16, j: u16) -> usize
     requires { ⌜ at + 112 ≤ length (now buf) ⌝ }
-    ensures { λ n. ⌜ Put (now (buf .entry)) at (memberText id bond (broken i j)) (now (buf .exit)) n × (n ≤ at + 112) ⌝ }
+    ensures { λ n. ⌜
+        Put (now (buf .entry)) at (memberText id bond (broken i j)) (now (buf .exit)) n × (n ≤ at + 112)
+        ⌝ }
 {
     let one = pair(buf, at, b"member ", id as u64, b" bond ", bond);
     let two = pair(buf, one, b" broken ", i as u64, b" ", j as u64);

@@ -1,18 +1,30 @@
--- What the functions over the log reader ask of a witness, and what a reading at an offset of a log is.
-use Prim.Native.Nat.{ℕ, _+_}
+-- What the functions over the log reader ask of a witness, what reading on from an offset of a log comes to, and the reader's
+-- type behind a `&mut`.
+use Prim.Native.Nat.{ℕ}
 use mathlib.Core.List.{List}
-use lib.ListN.{drop}
-use Rattle.model.specs.Decide.{decide}
+use lib.ListN.{length}
+use mir.Syntax.{named}
+use base.Fml.{Lft}
+use denote.RattleType.{RattleType}
+use denote.Ref.{NamedLft}
 use Rattle.model.specs.Limits.{rootHeight}
-use Rattle.model.specs.Log.{recordLength}
 use Rattle.model.specs.WellFormed.{WellFormed}
 use Rattle.state.specs.State.{Typed, modelOf}
-use Rattle.state.specs.Reading.{IsReading}
 use Rattle.state.specs.declared.Witness.{Witness}
-use Rattle.state.specs.declared.Reading.{Reading}
+use Rattle.reader.specs.Many.{readMany, IsBatch}
+use Rattle.reader.specs.declared.Batch.{Batch}
+use Rattle.log_reader.proofs.LogReader as T
 
 abbrev pub Asked : Witness → Type 0
 Asked w = Typed w × WellFormed rootHeight (modelOf w)
 
-abbrev pub Found : Witness → List ℕ → ℕ → Reading → Type 0
-Found w log at r = IsReading w (decide (modelOf w) (drop at log)) (at + recordLength (drop at log)) r
+-- so many records as there are rows: the rows before and after
+abbrev pub Found : Witness → List ℕ → ℕ → List ℕ → Batch → List ℕ → Type 0
+Found w log at before b after = IsBatch (readMany (length before) w log at) before b after
+
+-- 'a, the second of `read_on`'s lifetimes, and the reader's type at it
+abbrev pub α : Lft → NamedLft
+α κ = record { mir = named 1; lft = κ }
+
+abbrev pub B : Lft → RattleType
+B κ = T.the-row (α κ)

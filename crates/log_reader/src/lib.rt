@@ -1,17 +1,22 @@
-// The log reader that document 01 names.
+// The log reader that document 01 names: the lent log and the offset reached, as one record, and few thin functions
+// over it. The work is `reader::read_many`'s, which takes a plain log and an offset. A function that takes, makes or
+// holds a reader is proved by hand; `read_from` has plain parameters, so that whoever calls it names no reader and
+// needs no such proof.
+use reader::Batch;
 use state::Reading;
 use state::Witness;
 ghost use mathlib.Core.Path.{_≡_};
 ghost use Prim.Native.Nat.{_+_};
-ghost use lib.ListN.{drop};
+ghost use lib.ListN.{length, drop};
 ghost use Rattle.model.specs.Decide.{decide};
 ghost use Rattle.model.specs.Log.{recordLength};
 ghost use Rattle.model.specs.Limits.{rootHeight};
 ghost use Rattle.model.specs.WellFormed.{WellFormed};
 ghost use Rattle.state.specs.State.{Typed, modelOf};
 ghost use Rattle.state.specs.Reading.{IsReading};
+ghost use Rattle.reader.specs.Many.{readMany, IsBatch};
 
-// The log reader: the lent log and the offset reached, as one record.
+// The lent log, and the offset reached in it.
 pub struct LogReader<'a> {
     pub log: &'a [u8],
     pub at: usize,
@@ -24,28 +29,61 @@ pub fn new<'a>(log: &'a [u8], at: usize) -> LogReader<'a>
     LogReader { log, at }
 }
 
-// The record at the reader's offset, into a sound witness; the reading's `next` is the offset to go on from.
-pub fn next_record<'a>(r: LogReader<'a>, w: Witness) -> Reading
+// The records from the reader's offset on, into a sound witness, as many as there are rows lent. The reader is lent
+// too, and is moved on to the offset reached: the next call with it starts where this one ended.
+pub fn read_on<'s, 'a>(r: &'s mut LogReader<'a>, w: Witness, rows: &mut [u8]) -> Batch
     requires { ⌜ Typed w × WellFormed rootHeight (modelOf w) ⌝ }
-    ensures { λ s. ⌜
-        IsReading w
-        (decide (modelOf w) (drop (r .entry .at) (now (r .entry .log))))
-        (r .entry .at + recordLength (drop (r .entry .at) (now (r .entry .log))))
-        s
+    ensures { λ b. ⌜
+        IsBatch
+        (readMany (length (now (rows .entry))) w (now (now (r .entry) .log)) (now (r .entry) .at))
+        (now (rows .entry))
+        b
+        (now (rows .exit))
+        × (now (r .exit) .log ≡ now (r .entry) .log)
+        × (now (r .exit) .at ≡ b .next)
         ⌝ }
 {
-    reader::read_record(w, r.log, r.at)
+    let at = r.at;
+    let batch = reader::read_many(w, r.log, at, rows);
+    r.at = batch.next;
+    batch
 }
 
-// The record at `at`, by a log reader; whoever calls it names no reader.
-pub fn read_at(w: Witness, log: &[u8], at: usize) -> Reading
+// The same from an offset of a log: a reader is made there, and read on with. It is not handed back, since the batch
+// has the offset reached.
+pub fn read_from(w: Witness, log: &[u8], at: usize, rows: &mut [u8]) -> Batch
+    requires { ⌜ Typed w × WellFormed rootHeight (modelOf w) ⌝ }
+    ensures { λ b. ⌜
+        IsBatch
+        (readMany (length (now (rows .entry))) w (now (log .entry)) at)
+        (now (rows .entry))
+        b
+        (now (rows .exit))
+        ⌝ }
+{
+    let mut r = new(log, at);
+    read_on(&mut r, w, rows)
+}
+
+// The record at `from`, into a sound witness: reading on where one row is lent. Where the row was not used, the outcome
+// is what ended the reading.
+pub fn read_record(w: Witness, log: &[u8], from: usize) -> Reading
     requires { ⌜ Typed w × WellFormed rootHeight (modelOf w) ⌝ }
     ensures { λ r. ⌜
         IsReading w
-        (decide (modelOf w) (drop at (now (log .entry))))
-        (at + recordLength (drop at (now (log .entry))))
+        (decide (modelOf w) (drop from (now (log .entry))))
+        (from + recordLength (drop from (now (log .entry))))
         r
         ⌝ }
 {
-    next_record(new(log, at), w)
+    let mut row = [0u8; 1];
+    let r = read_from(w, log, from, &mut row);
+    let witness = r.witness;
+    let end = r.end;
+    let last = r.last;
+    Reading {
+        outcome: reader::ended_by(end, last),
+        next: r.next,
+        witness,
+    }
 }

@@ -22,9 +22,13 @@ pub const MAX_CHECKPOINTS: usize = 512;
 
 pub const MAX_VOTES: usize = 4096;
 
+// The names of so many checkpoints, 32 bytes each.
+pub const NAME_BYTES: usize = 32 * MAX_CHECKPOINTS;
+
 pub const MAX_BOND: u64 = 1_000_000_000_000;
 
-// Why something is refused: a case for each row of document 01's table, in its order; specs/Refusals.antt has the numbers.
+// Why something is refused: a case for each row of document 01's table, in its order; specs/Refusals.antt has the
+// numbers.
 pub enum Refusal {
     LogTooShort,
     LogMark,

@@ -11,7 +11,7 @@ use Rattle.model.specs.Log.{recordSize, recordLength, decode, decodeWhole}
 use Rattle.model.specs.Model.{memberIndex}
 use Rattle.model.specs.Run.{taken, told}
 use Rattle.state.specs.State.{emptyWitness, modelOf, withMember, store}
-use Rattle.reader.specs.Many.{Many, readMany}
+use Rattle.reader.specs.Many.{rowsUsed, endedBy, Many, readMany}
 
 abbrev log : List ℕ
 log =
@@ -25,10 +25,10 @@ abbrev many : ℕ → Many
 many n = readMany n (emptyWitness (replicate 32 0)) log 0
 
 -- the third record is refused by row 12 and passed, and the cut one ends the reading; and so does the limit
-read-on : many 9 ≡ record { passed = answer taken ∷ answer taken ∷ refused 12 ∷ []; end = refused 5; next = 33; witness = many 2 .witness }
+read-on : many 9 ≡ record { passed = answer taken ∷ answer taken ∷ refused 12 ∷ []; end = endedBy (refused 5); next = 33; witness = many 2 .witness }
 unfolding row field beOf membersFixed bondOutOfRange idHeld decideMember decideRecord decide firstIndex tabulate recordSize recordLength decode decodeWhole memberIndex told emptyWitness modelOf withMember store readMany
 read-on = refl
 
-limited : (many 1 .passed ≡ answer taken ∷ []) × (many 1 .end ≡ answer taken) × (many 1 .next ≡ 11)
+limited : (many 1 .passed ≡ answer taken ∷ []) × (many 1 .end ≡ rowsUsed) × (many 1 .next ≡ 11)
 unfolding row field beOf membersFixed bondOutOfRange idHeld decideMember decideRecord decide firstIndex tabulate recordSize recordLength decode decodeWhole memberIndex told emptyWitness modelOf withMember store readMany
 limited = (refl, refl, refl)

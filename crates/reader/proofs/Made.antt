@@ -8,17 +8,17 @@ use mathlib.Core.Bool.{Bool, true, false, cond}
 use borrow.Author.Tests.{eqb-true, eq-eqb, ltb-false}
 use lib.Dec.{eqb, ltb}
 use lib.ListN.{length, drop, length-drop, length-append}
-use Rattle.model.specs.Answer.{Answer, answer}
+use Rattle.model.specs.Answer.{Answer}
 use Rattle.model.specs.Decide.{decide, decideRecord}
 use Rattle.model.specs.Log.{recordSize, recordLength, decode, decodeWhole, unknownKind, cutRecord}
 use Rattle.model.specs.Model.{Model, Change}
-use Rattle.model.specs.Run.{Told, taken, told}
+use Rattle.model.specs.Run.{Told, told}
 use Rattle.model.proofs.Lists.{clash}
 use Rattle.state.specs.State.{modelOf, store}
-use Rattle.state.specs.Reading.{IsReading}
+use Rattle.state.specs.Reading.{outcomeOf, IsReading}
 use Rattle.state.specs.declared.Outcome.{Outcome}
 use Rattle.state.specs.declared.Witness.{Witness}
-use Rattle.reader.specs.Many.{Many, behind, readMany, lastTold, rowOf, IsBatch}
+use Rattle.reader.specs.Many.{Ended, rowsUsed, endedBy, Many, behind, readMany, lastTold, rowOf, endOf, endedTold, IsBatch}
 use Rattle.reader.specs.declared.Batch.{Batch}
 use Rattle.reader.proofs.Runs.{length-rows}
 
@@ -44,32 +44,6 @@ stays w m (kind ∷ s) e = go (eqb (recordSize kind) 0) (ltb (length (kind ∷ s
     go false true u e = refl
     go false false u e = clash (eq-eqb (recordSize kind) 0 e) u
 
--- where one record may be read, reading on is its reading
-module _ (w : Witness) (log : List ℕ) (at : ℕ) {before after : List ℕ} {r : Batch} (is : IsBatch (readMany 1 w log at) before r after) where
-  abbrev s : List ℕ
-  s = drop at log
-
-  abbrev pub Reads : Outcome → Type 0
-  Reads o = IsReading w (decide (modelOf w) s) (at + recordLength s) (record { outcome = o; next = r .next; witness = r .witness })
-
-  pub one-reading : cond (eqb (r .records) 0) (Reads (r .end)) (Reads (r .last))
-  unfolding readMany lastTold
-  one-reading = go (eqb (recordLength s) 0) refl is
-    where
-      a : Answer Change
-      a = decide (modelOf w) s
-
-      go : (b : Bool) → eqb (recordLength s) 0 ≡ b
-          → IsBatch (cond b (record { passed = []; end = told a; next = at; witness = w }) (record { passed = told a ∷ []; end = answer taken; next = at + recordLength s; witness = store w a })) before r after
-          → cond (eqb (r .records) 0) (Reads (r .end)) (Reads (r .last))
-      go true e i =
-          let none = eqb-true (recordLength s) 0 e in
-          subst (λ (n : ℕ). cond (eqb n 0) (Reads (r .end)) (Reads (r .last))) (sym (i .records))
-          (record { outcome = i .end; next = omega (arith, i .next, none); witness = i .witness ∙ sym (stays w (modelOf w) s none) })
-      go false e i =
-          subst (λ (n : ℕ). cond (eqb n 0) (Reads (r .end)) (Reads (r .last))) (sym (i .records))
-          (record { outcome = i .last; next = i .next; witness = i .witness })
-
 module _ (log : List ℕ) where
   abbrev at-offset : Witness → ℕ → Answer Change
   at-offset w at = decide (modelOf w) (drop at log)
@@ -78,7 +52,7 @@ module _ (log : List ℕ) where
   past at = at + recordLength (drop at log)
 
   abbrev stopped : Witness → ℕ → Many
-  stopped w at = record { passed = []; end = told (at-offset w at); next = at; witness = w }
+  stopped w at = record { passed = []; end = endedBy (told (at-offset w at)); next = at; witness = w }
 
   -- P of what was told so far, the witness and the offset
   module _ (n : ℕ) (P : List (Answer Told) → Witness → ℕ → Type 0)
@@ -111,7 +85,7 @@ module _ (log : List ℕ) where
   -- the end: as many were passed as may be, or a record that cannot be
   pub record Ends (n : ℕ) (m : Many) : Type 0 where
     pub few : length (m .passed) ≤ n
-    pub here : length (m .passed) < n → (recordLength (drop (m .next) log) ≡ 0) × (m .end ≡ told (at-offset (m .witness) (m .next)))
+    pub here : length (m .passed) < n → (recordLength (drop (m .next) log) ≡ 0) × (m .end ≡ endedBy (told (at-offset (m .witness) (m .next))))
 
   pub many-ends : (n : ℕ) (w : Witness) (at : ℕ) → Ends n (readMany n w log at)
   unfolding readMany
@@ -127,6 +101,37 @@ module _ (log : List ℕ) where
       go : Ends n on → (b : Bool) → eqb (recordLength (drop at log)) 0 ≡ b → Ends (suc n) (cond b (stopped w at) (behind (told a ∷ []) on))
       go ih true t = record { few = omega arith; here = λ h. (eqb-true (recordLength (drop at log)) 0 t, refl) }
       go ih false t = record { few = omega (arith, ih .few); here = λ h. ih .here (omega arith) }
+
+-- where one record may be read, reading on is its reading
+module _ (w : Witness) (log : List ℕ) (at : ℕ) {before after : List ℕ} {r : Batch} (is : IsBatch (readMany 1 w log at) before r after) where
+  abbrev s : List ℕ
+  s = drop at log
+
+  -- what ended it is told; and where nothing did, the record was passed and is the last
+  pub one-reading : (o : Outcome) → outcomeOf o ≡ endedTold (endOf (r .end)) (outcomeOf (r .last))
+      → IsReading w (decide (modelOf w) s) (at + recordLength s) (record { outcome = o; next = r .next; witness = r .witness })
+  unfolding readMany lastTold
+  one-reading o said = go (eqb (recordLength s) 0) refl is
+    where
+      a : Answer Change
+      a = decide (modelOf w) s
+
+      go : (b : Bool) → eqb (recordLength s) 0 ≡ b
+          → IsBatch (cond b (stopped log w at) (record { passed = told a ∷ []; end = rowsUsed; next = at + recordLength s; witness = store w a })) before r after
+          → IsReading w a (at + recordLength s) (record { outcome = o; next = r .next; witness = r .witness })
+      go true e i =
+          let none = eqb-true (recordLength s) 0 e in
+          record {
+            outcome = said ∙ ap (λ (x : Ended). endedTold x (outcomeOf (r .last))) (i .end);
+            next = omega (arith, i .next, none);
+            witness = i .witness ∙ sym (stays w (modelOf w) s none);
+          }
+      go false e i =
+          record {
+            outcome = said ∙ ap (λ (x : Ended). endedTold x (outcomeOf (r .last))) (i .end) ∙ i .last;
+            next = i .next;
+            witness = i .witness;
+          }
 
 -- as many rows stand there as were lent
 pub rows-kept : (n : ℕ) (w : Witness) (log : List ℕ) (at : ℕ) {before after : List ℕ} {r : Batch} → length before ≡ n → IsBatch (readMany n w log at) before r after → length after ≡ n

@@ -21,10 +21,12 @@ use Rattle.model.proofs.Run.{event-good}
 use Rattle.state.specs.State.{Typed, modelOf, store}
 use Rattle.state.specs.Reading.{outcomeOf}
 use Rattle.state.specs.declared.Outcome.{Outcome}
-use Rattle.state.specs.declared.Outcome.the-variants.{Nothing, Taken}
+use Rattle.state.specs.declared.Outcome.the-variants.{Nothing}
 use Rattle.state.specs.declared.Witness.{Witness}
 use Rattle.state.proofs.Kept.{reading-kept}
-use Rattle.reader.specs.Many.{Many, behind, readMany, lastTold, rowOf, IsBatch}
+use Rattle.reader.specs.Many.{endedBy, Many, behind, readMany, lastTold, rowOf, endOf, IsBatch}
+use Rattle.reader.specs.declared.End.{End}
+use Rattle.reader.specs.declared.End.the-variants.{RowsUsed, EndedBy}
 
 -- what is left of bytes consists of bytes
 pub bytes-left : (at : ℕ) (log : List ℕ) → AreBytes log → AreBytes (drop at log)
@@ -107,10 +109,10 @@ module _ {m : Many} {log before rows : List ℕ} {held : Witness} {next : ℕ} {
       ∙ omega (arith, length-rows (so .told-so-far), so .count, so .few, length-drop i before)
 
   -- no more is passed: the rest of the reading has this end
-  ends-with : {o : Outcome} → readMany (length before - i) held log next ≡ record { passed = []; end = outcomeOf o; next = next; witness = held }
+  ends-with : {o : End} → readMany (length before - i) held log next ≡ record { passed = []; end = endOf o; next = next; witness = held }
       → IsBatch m before (record { end = o; last = last; next = next; records = i; witness = held }) rows
   ends-with {o} e =
-      let all : m ≡ record { passed = so .told-so-far ++ []; end = outcomeOf o; next = next; witness = held } = so .whole ∙ ap (behind (so .told-so-far)) e in
+      let all : m ≡ record { passed = so .told-so-far ++ []; end = endOf o; next = next; witness = held } = so .whole ∙ ap (behind (so .told-so-far)) e in
       let told-all : m .passed ≡ so .told-so-far = ap (λ (x : Many). x .passed) all ∙ append-nil (so .told-so-far) in
       record {
         end = sym (ap (λ (x : Many). x .end) all);
@@ -122,11 +124,11 @@ module _ {m : Many} {log before rows : List ℕ} {held : Witness} {next : ℕ} {
       }
 
   -- there is no room for another row
-  pub all-read : length rows ≤ i → IsBatch m before (record { end = Taken; last = last; next = next; records = i; witness = held }) rows
+  pub all-read : length rows ≤ i → IsBatch m before (record { end = RowsUsed; last = last; next = next; records = i; witness = held }) rows
   unfolding readMany
   all-read past =
       let none : length before - i ≡ 0 = omega (arith, rows-length) in
-      ends-with {o = Taken} (ap (λ (n : ℕ). readMany n held log next) none)
+      ends-with {o = RowsUsed} (ap (λ (n : ℕ). readMany n held log next) none)
 
   abbrev s : List ℕ
   s = drop next log
@@ -138,17 +140,17 @@ module _ {m : Many} {log before rows : List ℕ} {held : Witness} {next : ℕ} {
   module _ (room : i < length rows) where
     first : (b : Bool) → eqb (recordLength s) 0 ≡ b
         → readMany (length before - i) held log next
-        ≡ cond b (record { passed = []; end = told a; next = next; witness = held }) (behind (told a ∷ []) (readMany (length before - (i + 1)) (store held a) log (next + recordLength s)))
+        ≡ cond b (record { passed = []; end = endedBy (told a); next = next; witness = held }) (behind (told a ∷ []) (readMany (length before - (i + 1)) (store held a) log (next + recordLength s)))
     unfolding readMany
     first b e =
         let some : length before - i ≡ suc (length before - (i + 1)) = omega (arith, rows-length) in
         ap (λ (n : ℕ). readMany n held log next) some
-        ∙ ap (λ (c : Bool). cond c (record { passed = []; end = told a; next = next; witness = held }) (behind (told a ∷ []) (readMany (length before - (i + 1)) (store held a) log (next + recordLength s)))) e
+        ∙ ap (λ (c : Bool). cond c (record { passed = []; end = endedBy (told a); next = next; witness = held }) (behind (told a ∷ []) (readMany (length before - (i + 1)) (store held a) log (next + recordLength s)))) e
 
     -- it cannot be passed
-    pub ended : {o : Outcome} → outcomeOf o ≡ told a → recordLength s ≡ 0 → IsBatch m before (record { end = o; last = last; next = next; records = i; witness = held }) rows
+    pub ended : {o : Outcome} → outcomeOf o ≡ told a → recordLength s ≡ 0 → IsBatch m before (record { end = EndedBy o; last = last; next = next; records = i; witness = held }) rows
     ended {o} t e =
-        ends-with {o = o} (first true (eq-eqb (recordLength s) 0 e) ∙ ap (λ (u : Answer Told). record { passed = []; end = u; next = next; witness = held }) (sym t))
+        ends-with {o = EndedBy o} (first true (eq-eqb (recordLength s) 0 e) ∙ ap (λ (u : Answer Told). record { passed = []; end = endedBy u; next = next; witness = held }) (sym t))
 
     -- it is passed, and its row is set
     pub passed : {o : Outcome} {n : ℕ} {v : Witness} → outcomeOf o ≡ told a → n ≡ recordLength s → (n ≡ 0 → ⊥) → v ≡ store held a → next + n < 2 ^ 64 → AreBytes log

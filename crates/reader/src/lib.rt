@@ -1,24 +1,26 @@
 // Reading a log on: several records in one call.
 use rules::Decision;
 use state::Outcome;
-use state::Reading;
 use state::Witness;
 ghost use mathlib.Core.Path.{_≡_};
-ghost use Prim.Native.Nat.{_+_};
-ghost use lib.ListN.{length, drop};
-ghost use Rattle.model.specs.Decide.{decide};
-ghost use Rattle.model.specs.Log.{recordLength};
+ghost use lib.ListN.{length};
 ghost use Rattle.model.specs.Limits.{rootHeight};
 ghost use Rattle.model.specs.WellFormed.{WellFormed};
 ghost use Rattle.state.specs.State.{Typed, modelOf};
-ghost use Rattle.state.specs.Reading.{outcomeOf, IsReading};
-ghost use Rattle.reader.specs.Many.{rowOf, readMany, IsBatch};
+ghost use Rattle.state.specs.Reading.{outcomeOf};
+ghost use Rattle.reader.specs.Many.{rowOf, readMany, endOf, endedTold, IsBatch};
 
-// What reading on comes to: what ended it (where as many records were passed as rows were lent, nothing did, and this is
-// `Taken`), what the last record that was passed came to (`Nothing` where none was), the offset to go on from, how many records
-// were passed, and the witness.
+// Why reading on ended: as many records were passed as rows were lent; or by what the next one came to, which cannot be
+// passed (`Nothing` where none is left).
+pub enum End {
+    RowsUsed,
+    EndedBy(Outcome),
+}
+
+// What reading on comes to: why it ended, what the last record that was passed came to (`Nothing` where none was), the
+// offset to go on from, how many records were passed, and the witness.
 pub struct Batch {
-    pub end: Outcome,
+    pub end: End,
     pub last: Outcome,
     pub next: usize,
     pub records: usize,
@@ -36,12 +38,15 @@ fn row_of(o: Outcome) -> u8
     }
 }
 
-// The records from `at` on, into a sound witness, to the log's end or its stop, or as many as there are rows lent; the row of
-// each goes there. The state is owned here alone and written in place: it is large, and a function that took it and gave it
-// back for each record would copy it each time. Beside it go the votes' numbers in chains, so that a vote is soon looked for.
+// The records from `at` on, into a sound witness, to the log's end or its stop, or as many as there are rows lent; the
+// row of each goes there. The state is owned here alone and written in place: it is large, and a function that took it
+// and gave it back for each record would copy it each time. Beside it go the votes' numbers in chains, so that a vote
+// is soon looked for.
 pub fn read_many(w: Witness, log: &[u8], at: usize, rows: &mut [u8]) -> Batch
     requires { ⌜ Typed w × WellFormed rootHeight (modelOf w) ⌝ }
-    ensures { λ r. ⌜ IsBatch (readMany (length (now (rows .entry))) w (now (log .entry)) at) (now (rows .entry)) r (now (rows .exit)) ⌝ }
+    ensures { λ r. ⌜
+        IsBatch (readMany (length (now (rows .entry))) w (now (log .entry)) at) (now (rows .entry)) r (now (rows .exit))
+        ⌝ }
 {
     let sources = w.sources;
     let targets = w.targets;
@@ -77,7 +82,7 @@ pub fn read_many(w: Witness, log: &[u8], at: usize, rows: &mut [u8]) -> Batch
         let passed = rules::passed_by(d);
         if passed == 0 {
             return Batch {
-                end: outcome,
+                end: End::EndedBy(outcome),
                 last,
                 next,
                 records: i,
@@ -113,7 +118,7 @@ pub fn read_many(w: Witness, log: &[u8], at: usize, rows: &mut [u8]) -> Batch
         i += 1;
     }
     Batch {
-        end: Outcome::Taken,
+        end: End::RowsUsed,
         last,
         next,
         records: i,
@@ -121,31 +126,12 @@ pub fn read_many(w: Witness, log: &[u8], at: usize, rows: &mut [u8]) -> Batch
     }
 }
 
-// The record at `from`, into a sound witness.
-pub fn read_record(w: Witness, log: &[u8], from: usize) -> Reading
-    requires { ⌜ Typed w × WellFormed rootHeight (modelOf w) ⌝ }
-    ensures { λ r. ⌜
-        IsReading w
-        (decide (modelOf w) (drop from (now (log .entry))))
-        (from + recordLength (drop from (now (log .entry))))
-        r
-        ⌝ }
+// What the record that ended a reading came to; `otherwise` where none did.
+pub fn ended_by(e: End, otherwise: Outcome) -> Outcome
+    ensures { λ r. ⌜ outcomeOf r ≡ endedTold (endOf e) (outcomeOf otherwise) ⌝ }
 {
-    let mut row = [0u8; 1];
-    let r = read_many(w, log, from, &mut row);
-    let witness = r.witness;
-    let end = r.end;
-    let last = r.last;
-    if r.records == 0 {
-        return Reading {
-            outcome: end,
-            next: r.next,
-            witness,
-        };
-    }
-    Reading {
-        outcome: last,
-        next: r.next,
-        witness,
+    match e {
+        End::EndedBy(o) => o,
+        End::RowsUsed => otherwise,
     }
 }

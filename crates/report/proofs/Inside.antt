@@ -17,7 +17,7 @@ use Rattle.state.specs.declared.Witness.{Witness}
 use Rattle.reader.proofs.Made.{length-inside}
 use Rattle.text.proofs.Putting.{kept}
 use Rattle.witness.specs.Calls.{sound?}
-use Rattle.report.specs.Feed.{Feeding, full, wants, ended, pausedAt, ahead, refusedBy, lineRoom, lastNumber, halted, feedFrom, onSound, feedCall, headed, openCall, IsFed}
+use Rattle.report.specs.Feed.{Feeding, full, wants, ended, pausedAt, ahead, refusedBy, lineRoom, lastNumber, spent, halted, feedFrom, onSound, feedCall, headed, openCall, IsFed}
 use Rattle.report.specs.declared.Fed.{Fed}
 
 halted-passes : (a : Answer Change) (w : Witness) (k : ℕ) → halted a w k .passed ≡ 0
@@ -39,8 +39,8 @@ from-passes (suc n) room w k s =
     one a size line (feedFrom n (room - length line) (store w a) (k + 1) (drop size s)) (length-inside s)
     (from-passes n (room - length line) (store w a) (k + 1) (drop size s)) (ltb room lineRoom || eqb k lastNumber) (eqb size 0)
   where
-    one : (a : Answer Change) (size : ℕ) (line : List ℕ) (later : Feeding) → size ≤ length s → later .passed ≤ length (drop size s) → (no-room none : Bool)
-        → cond no-room (pausedAt [] full w k) (cond none (halted a w k) (ahead line size later)) .passed ≤ length s
+    one : (a : Answer Change) (size : ℕ) (line : List ℕ) (later : Feeding) → size ≤ length s → later .passed ≤ length (drop size s) → (spent? none : Bool)
+        → cond spent? (pausedAt [] (spent room) w k) (cond none (halted a w k) (ahead line size later)) .passed ≤ length s
     one a size line later inside fewer true none = omega arith
     one a size line later inside fewer false true = omega (arith, halted-passes a w k)
     one a size line later inside fewer false false = omega (arith, fewer, inside, length-drop size s)

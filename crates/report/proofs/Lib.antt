@@ -3,7 +3,8 @@ mod Rows
 mod Onward
 mod Ends
 pub mod Inside
-mod Prefix
+pub mod Prefix
 mod RestOfReport
+pub mod ByRecord
 mod Feeding
 pub mod Pieces

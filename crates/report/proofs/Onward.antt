@@ -18,17 +18,18 @@ use Rattle.model.specs.Report.{outcomeLine}
 use Rattle.model.specs.Run.{Told, told}
 use Rattle.state.specs.Reading.{outcomeOf}
 use Rattle.state.specs.State.{modelOf, store}
+use Rattle.state.specs.declared.Outcome.{Outcome}
 use Rattle.state.specs.declared.Witness.{Witness}
 use Rattle.reader.proofs.Runs.{Sound, bytes-left, reading-sound}
 use Rattle.reader.proofs.Made.{length-inside, while-passed, many-ends}
-use Rattle.reader.specs.Many.{Many, readMany, rowOf, IsBatch}
+use Rattle.reader.specs.Many.{Ended, Many, readMany, rowOf, endOf, endedTold, IsBatch}
 use Rattle.reader.specs.declared.Batch.{Batch}
 use Rattle.text.specs.Put.{Put}
 use Rattle.text.proofs.Putting as Putting
-use Rattle.report.specs.Feed.{Feeding, full, pausedAt, ahead, lineRoom, lastNumber, halted, feedFrom, IsFed}
+use Rattle.report.specs.Feed.{Feeding, pausedAt, ahead, lineRoom, lastNumber, spent, halted, feedFrom, pausedOf, IsFed}
 use Rattle.report.specs.Rows.{rowLines}
 use Rattle.report.specs.declared.Fed.{Fed}
-use Rattle.report.specs.declared.Pause.the-variants.{Full}
+use Rattle.report.specs.declared.Pause.{Pause}
 use Rattle.report.proofs.Rows.{and-true, told-more, passed-line}
 
 -- `whole` is what the call comes to; the text so far stands in the buffer, from 0 to `end`
@@ -54,9 +55,9 @@ goesOn room k = leb lineRoom room && ltb k lastNumber
 pub room-and-number : (room k : ℕ) → goesOn room k ≡ true → (lineRoom ≤ room) × (k < lastNumber)
 room-and-number room k e = let both = and-true (leb lineRoom room) (ltb k lastNumber) e in (leb-true lineRoom room (both .0), ltb-true k lastNumber (both .1))
 
--- where it fails, the call is full
-full-then : (room k : ℕ) → k ≤ lastNumber → goesOn room k ≡ false → (ltb room lineRoom || eqb k lastNumber) ≡ true
-full-then room k few e = go (ltb room lineRoom) refl
+-- where it fails, no record can be read on
+spent-then : (room k : ℕ) → k ≤ lastNumber → goesOn room k ≡ false → (ltb room lineRoom || eqb k lastNumber) ≡ true
+spent-then room k few e = go (ltb room lineRoom) refl
   where
     go : (short : Bool) → ltb room lineRoom ≡ short → (short || eqb k lastNumber) ≡ true
     go true s = refl
@@ -120,17 +121,18 @@ module _ {whole : Feeding} {log : List ℕ} {at : ℕ} {before buf : List ℕ} {
   passing b = cond b (halted a held k) (ahead (outcomeLine k a) size (feedFrom (so .fuel) (length before - end - length (outcomeLine k a)) (store held a) (k + 1) (drop size left)))
 
   abbrev branches : Bool → Feeding
-  branches b = cond b (pausedAt [] full held k) (passing (eqb size 0))
+  branches b = cond b (pausedAt [] (spent (length before - end)) held k) (passing (eqb size 0))
 
   opened : (b : Bool) → (ltb (length buf - end) lineRoom || eqb k lastNumber) ≡ b → feedFrom (suc (so .fuel)) (length before - end) held k left ≡ branches b
   unfolding feedFrom
   opened b e = ap branches (ap (λ (n : ℕ). ltb n lineRoom || eqb k lastNumber) same-room ∙ e)
 
   -- no room, or no number
-  pub full-here : goesOn (length buf - end) k ≡ false → IsFed whole at 0 before (record { pause = Full; next = next; records = k; written = end; witness = held }) buf
-  full-here e =
-      paused-here (opened true (full-then (length buf - end) k (so .numbered) e))
-      (record { pause = refl; next = omega arith; records = refl; witness = refl; text = Putting.none buf end end-inside })
+  pub spent-here : (why : Pause) → pausedOf why ≡ spent (length buf - end) → goesOn (length buf - end) k ≡ false
+      → IsFed whole at 0 before (record { pause = why; next = next; records = k; written = end; witness = held }) buf
+  spent-here why says e =
+      paused-here (opened true (spent-then (length buf - end) k (so .numbered) e))
+      (record { pause = says ∙ ap spent (sym same-room); next = omega arith; records = refl; witness = refl; text = Putting.none buf end end-inside })
 
   module _ (room : lineRoom ≤ length buf - end) (number : k < lastNumber) where
     goes-on : (b : Bool) → eqb size 0 ≡ b → feedFrom (suc (so .fuel)) (length before - end) held k left ≡ passing b
@@ -268,10 +270,11 @@ module _ {whole : Feeding} {log : List ℕ} {at : ℕ} {before buf : List ℕ} {
         pub room-left : lineRoom ≤ length buf′ - end′
         room-left = omega (arith, may .room, few, is .records, b .short, ends-there, Putting.kept lines, end-inside so)
 
-        pub halted-last : {f : Fed} {after : List ℕ} → ((a : Answer Change) → outcomeOf (r .end) ≡ told a → IsFed (halted a (r .witness) (k + r .records)) (r .next) end′ buf′ f after)
+        pub halted-last : {f : Fed} {after : List ℕ} → (o : Outcome) (t : Answer Told) → outcomeOf o ≡ endedTold (endOf (r .end)) t
+            → ((a : Answer Change) → outcomeOf o ≡ told a → IsFed (halted a (r .witness) (k + r .records)) (r .next) end′ buf′ f after)
             → IsFed whole at 0 before f after
-        halted-last fed =
+        halted-last o t says fed =
             let here = many-ends log n held next .here (omega (arith, few, is .records)) in
-            let told-there = is .end ∙ here .1 ∙ ap₂ (λ (v : Witness) (p : ℕ). told (decide (modelOf v) (drop p log))) (sym (is .witness)) (sym (is .next)) in
+            let told-there = says ∙ ap (λ (e : Ended). endedTold e t) (is .end ∙ here .1) ∙ ap₂ (λ (v : Witness) (p : ℕ). told (decide (modelOf v) (drop p log))) (sym (is .witness)) (sym (is .next)) in
             halted-here batch-here room-left (omega (arith, few, may .numbers, so .numbered)) (ap (λ (p : ℕ). recordLength (drop p log)) (is .next) ∙ here .0)
             (fed (decide (modelOf (r .witness)) (drop (r .next) log)) told-there)

@@ -27,20 +27,21 @@ use Rattle.state.proofs.Started.{empty-model, empty-typed, header-long, header-
 use Rattle.reader.proofs.Runs.{Sound}
 use Rattle.witness.specs.Calls.{sound?}
 use Rattle.witness.proofs.Guarded.{sound-good}
-use Rattle.report.specs.Feed.{Paused, wants, full, ended, refusedBy, Feeding, pausedAt, ahead, lineRoom, lastNumber, halted, headed, onSound, feedFrom, openCall, feedCall, endText, endFed, endCall}
-use Rattle.report.specs.Pieces.{restOfReport, Piece, onward, fedText, lastPause, endPause, InPieces, OpenWaits, FeedGoesOn, CloseEnds}
+use Rattle.report.specs.Feed.{Paused, wants, full, outOfNumbers, ended, refusedBy, Feeding, pausedAt, ahead, lineRoom, lastNumber, spent, halted, headed, onSound, feedFrom, openCall, feedCall, endText, endFed, endCall}
+use Rattle.report.specs.Pieces.{Piece, onward, inWant?, fedText, lastPause, endPause, InPieces, OpenWaits, FeedGoesOn, CloseEnds}
 use Rattle.report.proofs.Feeding.{Waits, fed-call}
+use Rattle.report.proofs.RestOfReport.{restOfReport}
 use Rattle.report.proofs.Prefix.{header-in-piece}
 
 -- ---- bytes put together
 
-bytes-before : (s t : List ℕ) → AreBytes (s ++ t) → AreBytes s
+pub bytes-before : (s t : List ℕ) → AreBytes (s ++ t) → AreBytes s
 bytes-before s t b i h = rw (← List·getD-append s t 0 i h) (b i (omega (arith, length-append s t)))
 
-bytes-behind : (s t : List ℕ) → AreBytes (s ++ t) → AreBytes t
+pub bytes-behind : (s t : List ℕ) → AreBytes (s ++ t) → AreBytes t
 bytes-behind s t b i h = rw (← getD-append-add s t i 0) (b (length s + i) (omega (arith, length-append s t)))
 
-bytes-both : (s t : List ℕ) → AreBytes s → AreBytes t → AreBytes (s ++ t)
+pub bytes-both : (s t : List ℕ) → AreBytes s → AreBytes t → AreBytes (s ++ t)
 bytes-both [] t b c i h = c i h
 bytes-both (x ∷ s) t b c zero h = b 0 (omega arith)
 bytes-both (x ∷ s) t b c (suc i) h = bytes-both s t (λ j l. b (suc j) (omega arith)) c i (omega arith)
@@ -57,35 +58,38 @@ module _ (room : ℕ) (w : Witness) (sound : Sound w) (k n : ℕ) where
   close-is short e = rw (true-well-formed rootHeight (modelOf w) (sound .good), e)
 
   -- what `close` writes, where it has room
-  close-text : (endCall room w k n .paused ≡ full → ⊥) → endCall room w k n .text ≡ endText (modelOf w) k n
+  close-text : inWant? (endCall room w k n .paused) ≡ false → endCall room w k n .text ≡ endText (modelOf w) k n
+  unfolding inWant?
   close-text fits = go (ltb room (length (endText (modelOf w) k n))) refl
     where
       go : (short : Bool) → ltb room (length (endText (modelOf w) k n)) ≡ short → endCall room w k n .text ≡ endText (modelOf w) k n
-      go true e = absurd (fits (ap (λ (f : Feeding). f .paused) (close-is true e)))
+      go true e = clash (ap (λ (f : Feeding). inWant? (f .paused)) (close-is true e)) fits
       go false e = ap (λ (f : Feeding). f .text) (close-is false e)
 
 module _ (room : ℕ) (w : Witness) (sound : Sound w) (k : ℕ) (s : List ℕ) where
   -- the last call of `feed` paused so
-  last-fed : (why : Paused) → (why ≡ wants → Waits w k s) → (onward why why why ≡ full → ⊥) → (onward why why (endCall room w k (length s) .paused) ≡ full → ⊥)
+  last-fed : (why : Paused) → (why ≡ wants → Waits w k s) → inWant? (onward why why why) ≡ false → inWant? (onward why why (endCall room w k (length s) .paused)) ≡ false
       → onward why [] (endCall room w k (length s) .text) ≡ onward why [] (restOfReport (modelOf w) k s)
-  unfolding onward
+  unfolding onward inWant?
   last-fed wants waits fed closed = close-text room w sound k (length s) closed ∙ sym (waits refl)
-  last-fed full waits fed closed = absurd (fed refl)
+  last-fed full waits fed closed = clash refl fed
+  last-fed outOfNumbers waits fed closed = clash refl fed
   last-fed ended waits fed closed = refl
   last-fed (refusedBy n) waits fed closed = refl
 
 -- a call paused so: the calls after it, if there are any, write y where they write x
-onward-fed : (why last end : Paused) (x y : List ℕ) → ((last ≡ full → ⊥) → (end ≡ full → ⊥) → x ≡ y) → (onward why why last ≡ full → ⊥) → (onward why why end ≡ full → ⊥)
+onward-fed : (why last end : Paused) (x y : List ℕ) → (inWant? last ≡ false → inWant? end ≡ false → x ≡ y) → inWant? (onward why why last) ≡ false → inWant? (onward why why end) ≡ false
     → onward why [] x ≡ onward why [] y
 unfolding onward
 onward-fed wants last end x y same fed closed = same fed closed
 onward-fed full last end x y same fed closed = same fed closed
+onward-fed outOfNumbers last end x y same fed closed = same fed closed
 onward-fed ended last end x y same fed closed = refl
 onward-fed (refusedBy n) last end x y same fed closed = refl
 
 -- a call paused so, and left s: what is written after it
 pieces-fed : (room : ℕ) (ps : List Piece) (why : Paused) (w : Witness) → Sound w → (k : ℕ) (s : List ℕ) → AreBytes s → AreBytes (all ps)
-    → (why ≡ wants → Waits w k s) → (onward why why (lastPause why w k s ps) ≡ full → ⊥) → (onward why why (endPause room w k s ps) ≡ full → ⊥)
+    → (why ≡ wants → Waits w k s) → inWant? (onward why why (lastPause why w k s ps)) ≡ false → inWant? (onward why why (endPause room w k s ps)) ≡ false
     → onward why [] (fedText room w k s ps) ≡ onward why [] (restOfReport (modelOf w) k (s ++ all ps))
 unfolding fedText lastPause endPause flatMap
 pieces-fed room [] why w sound k s bytes later waits fed closed = rw append-nil (last-fed room w sound k s why waits fed closed)
@@ -102,7 +106,7 @@ pieces-fed room (p ∷ ps) why w sound k s bytes later waits fed closed =
 
 -- ---- from the beginning
 
-empty-sound : (name : List ℕ) → length name ≡ 32 → Sound (emptyWitness name)
+pub empty-sound : (name : List ℕ) → length name ≡ 32 → Sound (emptyWitness name)
 empty-sound name long = record { typed = empty-typed name long; good = subst (λ (m : Model). WellFormed rootHeight m) (sym (empty-model name long)) (start-good name) }
 
 report-is-rest : (log name : List ℕ) → header log ≡ answer name → restOfReport (start name) 0 (drop 37 log) ≡ report log
@@ -129,7 +133,7 @@ module _ (last : Bool) (first later : List ℕ) where
   same-header : Heads last first later → header first ≡ header (first ++ later)
   same-header h = ⊎-elim (λ (long : 37 ≤ length first). sym (header-in-piece first later long)) (λ (whole : (last ≡ true) × (later ≡ [])). ap header (sym (append-nil first) ∙ ap (λ (l : List ℕ). first ++ l) (sym (whole .1)))) h
 
-  opened-is : (room : ℕ) (w : Witness) → Heads last first later → lineRoom ≤ room → openCall last room w first ≡ headed w (header (first ++ later))
+  pub opened-is : (room : ℕ) (w : Witness) → Heads last first later → lineRoom ≤ room → openCall last room w first ≡ headed w (header (first ++ later))
   unfolding openCall
   opened-is room w h has-room =
       ap (λ (b : Bool). cond b (pausedAt [] wants w 0) (cond (ltb room lineRoom) (pausedAt [] full w 0) (headed w (header first)))) (not-short h)
@@ -152,7 +156,7 @@ module _ (room : ℕ) (first : List ℕ) (ps : List Piece) where
       ⊎-elim (λ (long : 37 ≤ length first). long)
       (λ (whole : (last ≡ true) × (all ps ≡ [])). omega (arith, header-long (first ++ all ps) name e, length-append first (all ps), ap length (whole .1))) h
 
-  by-header : (last : Bool) → Heads last first (all ps) → (w : Witness) (h : Answer (List ℕ)) → AreBytes (first ++ all ps) → header (first ++ all ps) ≡ h → (lasts (headed w h) ≡ full → ⊥) → (closes (headed w h) ≡ full → ⊥)
+  by-header : (last : Bool) → Heads last first (all ps) → (w : Witness) (h : Answer (List ℕ)) → AreBytes (first ++ all ps) → header (first ++ all ps) ≡ h → inWant? (lasts (headed w h)) ≡ false → inWant? (closes (headed w h)) ≡ false
       → from (headed w h) ≡ report (first ++ all ps)
   unfolding headed onward
   by-header last heads w (refused n) bytes e fed closed = append-nil (stoppedLine n 0) ∙ report-is-stop (first ++ all ps) n e
@@ -171,38 +175,38 @@ in-pieces log bytes room w last first ps is heads has-room (fed, closed) =
     let is-headed = opened-is last (first .bytes) (all ps) (first .room) w heads has-room in
     ap (from room (first .bytes) ps) is-headed
     ∙ by-header room (first .bytes) ps last heads w (header cut) (subst AreBytes is bytes) refl
-    (subst (λ (f : Feeding). lasts room (first .bytes) ps f ≡ full → ⊥) is-headed fed)
-    (subst (λ (f : Feeding). closes room (first .bytes) ps f ≡ full → ⊥) is-headed closed)
+    (subst (λ (f : Feeding). inWant? (lasts room (first .bytes) ps f) ≡ false) is-headed fed)
+    (subst (λ (f : Feeding). inWant? (closes room (first .bytes) ps f) ≡ false) is-headed closed)
     ∙ ap report (sym is)
 
 -- ---- with room for a line, a record is passed
 
-ne-full-halted : (a : Answer Change) (w : Witness) (k : ℕ) → halted a w k .paused ≡ full → ⊥
-unfolding halted
-ne-full-halted (refused n) w k e = go (eqb n 4) e
+halted-not-in-want : (a : Answer Change) (w : Witness) (k : ℕ) → inWant? (halted a w k .paused) ≡ false
+unfolding halted inWant?
+halted-not-in-want (refused n) w k = go (eqb n 4)
   where
-    go : (b : Bool) → cond b (pausedAt (stoppedLine 4 k) ended w k) (pausedAt [] wants w k) .paused ≡ full → ⊥
-    go true e = let z : _≡_ {A = ℕ} 0 1 = cc in absurd (omega arith)
-    go false e = let z : _≡_ {A = ℕ} 0 1 = cc in absurd (omega arith)
-ne-full-halted (answer c) w k e = let z : _≡_ {A = ℕ} 0 1 = cc in absurd (omega arith)
+    go : (b : Bool) → inWant? (cond b (pausedAt (stoppedLine 4 k) ended w k) (pausedAt [] wants w k) .paused) ≡ false
+    go true = refl
+    go false = refl
+halted-not-in-want (answer c) w k = refl
 
 -- one reading of the call's first record
 module _ (n room : ℕ) (w : Witness) (k : ℕ) (s : List ℕ) where
   abbrev a : Answer Change
   a = decide (modelOf w) s
 
-  first-passed : (ltb room lineRoom || eqb k lastNumber) ≡ false → feedFrom (suc n) room w k s .paused ≡ full → 0 < feedFrom (suc n) room w k s .passed
+  first-passed : (ltb room lineRoom || eqb k lastNumber) ≡ false → inWant? (feedFrom (suc n) room w k s .paused) ≡ true → 0 < feedFrom (suc n) room w k s .passed
   unfolding feedFrom
   first-passed goes e = go (ltb room lineRoom || eqb k lastNumber) (eqb (recordLength s) 0) goes refl e
     where
       later : Feeding
       later = feedFrom n (room - length (outcomeLine k a)) (store w a) (k + 1) (drop (recordLength s) s)
 
-      go : (no-room none : Bool) → no-room ≡ false → eqb (recordLength s) 0 ≡ none
-          → cond no-room (pausedAt [] full w k) (cond none (halted a w k) (ahead (outcomeLine k a) (recordLength s) later)) .paused ≡ full
-          → 0 < cond no-room (pausedAt [] full w k) (cond none (halted a w k) (ahead (outcomeLine k a) (recordLength s) later)) .passed
+      go : (spent? none : Bool) → spent? ≡ false → eqb (recordLength s) 0 ≡ none
+          → inWant? (cond spent? (pausedAt [] (spent room) w k) (cond none (halted a w k) (ahead (outcomeLine k a) (recordLength s) later)) .paused) ≡ true
+          → 0 < cond spent? (pausedAt [] (spent room) w k) (cond none (halted a w k) (ahead (outcomeLine k a) (recordLength s) later)) .passed
       go true none r e p = clash refl r
-      go false true r e p = absurd (ne-full-halted a w k p)
+      go false true r e p = clash p (halted-not-in-want a w k)
       go false false r e p = omega (arith, eqb-false (recordLength s) 0 e)
 
 pub open-waits : OpenWaits
@@ -210,18 +214,18 @@ unfolding openCall
 open-waits room w log short = rw (lt-ltb (length log) 37 short)
 
 pub feed-goes-on : FeedGoesOn
-unfolding feedCall onSound
+unfolding feedCall onSound inWant?
 feed-goes-on room w k s has-room number = go (sound? w)
   where
     goes : (ltb room lineRoom || eqb k lastNumber) ≡ false
     goes = rw (le-ltb room lineRoom has-room) (ne-eqb k lastNumber (λ e. omega (arith, e, number)))
 
-    go : (b : Bool) → cond b (feedFrom (length s + 1) room w k s) (pausedAt [] (refusedBy 40) w k) .paused ≡ full
+    go : (b : Bool) → inWant? (cond b (feedFrom (length s + 1) room w k s) (pausedAt [] (refusedBy 40) w k) .paused) ≡ true
         → 0 < cond b (feedFrom (length s + 1) room w k s) (pausedAt [] (refusedBy 40) w k) .passed
     go true e =
         let one : length s + 1 ≡ suc (length s) = omega arith in
-        subst (λ (n : ℕ). feedFrom n room w k s .paused ≡ full → 0 < feedFrom n room w k s .passed) (sym one) (first-passed (length s) room w k s goes) e
-    go false e = let z : _≡_ {A = ℕ} 0 1 = cc in absurd (omega arith)
+        subst (λ (n : ℕ). inWant? (feedFrom n room w k s .paused) ≡ true → 0 < feedFrom n room w k s .passed) (sym one) (first-passed (length s) room w k s goes) e
+    go false e = clash e refl
 
 pub close-ends : CloseEnds
 close-ends room w k left typed sound fits =

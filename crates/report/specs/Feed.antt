@@ -17,14 +17,15 @@ use Rattle.text.specs.Put.{Put}
 use Rattle.witness.specs.Calls.{sound?}
 use Rattle.report.specs.declared.Fed.{Fed}
 use Rattle.report.specs.declared.Pause.{Pause}
-use Rattle.report.specs.declared.Pause.the-variants.{Wants, Full, Ended, Refused}
+use Rattle.report.specs.declared.Pause.the-variants.{Wants, Full, OutOfNumbers, Ended, Refused}
 
 -- Why a call paused: it wants more of the log, since nothing is left or the last record is cut; the buffer has no room for
--- another line, or for the last text, or no record number is left; the report has ended, and nothing more belongs to it; or the
+-- another line, or for the last text; no record number is left; the report has ended, and nothing more belongs to it; or the
 -- call was refused.
 pub data Paused : Type 0 where
   wants : Paused
   full : Paused
+  outOfNumbers : Paused
   ended : Paused
   refusedBy : ℕ → Paused
 
@@ -48,8 +49,13 @@ ahead line n f = record { text = line ++ f .text; paused = f .paused; passed = n
 abbrev pub lineRoom : ℕ
 lineRoom = 64
 
+-- record numbers are of 64 bits, and no record has the last of them
 abbrev pub lastNumber : ℕ
 lastNumber = 18446744073709551615
+
+-- why no record can be read on: no line fits, or else no number is left
+abbrev pub spent : ℕ → Paused
+spent room = cond (ltb room lineRoom) full outOfNumbers
 
 -- where no record can be passed: an unknown kind ends the report; a cut record may be whole with the next piece
 unfoldable pub halted : Answer Change → Witness → ℕ → Feeding
@@ -63,7 +69,7 @@ feedFrom (suc n) room w k s =
     let a = decide (modelOf w) s in
     let line = outcomeLine k a in
     let size = recordLength s in
-    cond (ltb room lineRoom || eqb k lastNumber) (pausedAt [] full w k)
+    cond (ltb room lineRoom || eqb k lastNumber) (pausedAt [] (spent room) w k)
     (cond (eqb size 0) (halted a w k)
     (ahead line size (feedFrom n (room - length line) (store w a) (k + 1) (drop size s))))
 
@@ -102,6 +108,7 @@ endCall room w k left = onSound w k (endFed room w k left)
 abbrev pub pausedOf : Pause → Paused
 pausedOf Wants = wants
 pausedOf Full = full
+pausedOf OutOfNumbers = outOfNumbers
 pausedOf Ended = ended
 pausedOf (Refused r) = refusedBy (refusalNumber r)
 

@@ -1,27 +1,18 @@
--- "A log fed in pieces, cut anywhere, gives the report of the whole log": the statement.
+-- A log fed in pieces, cut anywhere, gives the report of the whole log: the statement.
 use Prim.Native.Nat.{ℕ, _≤_, _<_}
 use mathlib.Core.Path.{_≡_}
 use mathlib.Core.List.{List, [], _∷_, _++_, flatMap}
 use mathlib.Core.Logic.{_⊎_}
-use mathlib.Core.Bool.{Bool, true, false, cond}
+use mathlib.Core.Bool.{Bool, true, false}
 use lib.ListN.{length, drop}
 use Rattle.model.specs.Bytes.{AreBytes}
-use Rattle.model.specs.Lists.{any}
-use Rattle.model.specs.Model.{Model}
-use Rattle.model.specs.Report.{report, summary, stops?, outcomeLines}
-use Rattle.model.specs.Run.{after, outcomes, readings}
+use Rattle.model.specs.Report.{report}
 use Rattle.state.specs.State.{Typed, modelOf}
 use Rattle.state.specs.declared.Witness.{Witness}
 use Rattle.witness.specs.Calls.{sound?}
-use Rattle.report.specs.Feed.{Paused, wants, full, ended, refusedBy, Feeding, pausedAt, lineRoom, lastNumber, openCall, feedCall, endText, endCall}
+use Rattle.report.specs.Feed.{Paused, wants, full, outOfNumbers, ended, refusedBy, Feeding, pausedAt, lineRoom, lastNumber, openCall, feedCall, endText, endCall}
 
--- the rest of a report: record k and those after it, from the bytes s to the log's end or its stop, and the summary
-unfoldable pub restOfReport : Model → ℕ → List ℕ → List ℕ
-restOfReport m k s =
-    let es = readings (length s) s in
-    outcomeLines k (outcomes m es) ++ cond (any stops? (outcomes m es)) [] (summary (after m es))
-
--- a call of `feed`: the room in its buffer, and the bytes that were added to what the last call left
+-- a call of `open` or `feed`: the room in its buffer, and the bytes that were added to what the last call left
 pub record Piece : Type 0 where
   pub room : ℕ
   pub bytes : List ℕ
@@ -30,8 +21,17 @@ pub record Piece : Type 0 where
 unfoldable pub onward : {A : Type 0} → Paused → (none further : A) → A
 onward wants none further = further
 onward full none further = further
+onward outOfNumbers none further = further
 onward ended none further = none
 onward (refusedBy n) none further = none
+
+-- a call paused for want of room, or of a record number
+unfoldable pub inWant? : Paused → Bool
+inWant? wants = false
+inWant? full = true
+inWant? outOfNumbers = true
+inWant? ended = false
+inWant? (refusedBy n) = false
 
 -- All that is written by calls of `feed` and then one of `close`, which has so much room: s is what the last call left.
 unfoldable pub fedText : ℕ → Witness → ℕ → List ℕ → List Piece → List ℕ
@@ -65,11 +65,12 @@ module _ (room : ℕ) (w : Witness) (last : Bool) (first : Piece) (ps : List Pie
   abbrev pub reportText : List ℕ
   reportText = opened .text ++ onward (opened .paused) [] (fedText room (opened .witness) (opened .records) left ps)
 
-  -- Neither the last call of `feed`, of which there is one at least, nor `close` paused for want of room.
-  abbrev pub HadRoom : Type 0
-  HadRoom =
-      (onward (opened .paused) (opened .paused) (lastPause full (opened .witness) (opened .records) left ps) ≡ full → ⊥)
-      × (onward (opened .paused) (opened .paused) (endPause room (opened .witness) (opened .records) left ps) ≡ full → ⊥)
+  -- Where the header is right there is a call of `feed`, and neither the last of them nor `close` paused for want of room or of a
+  -- number.
+  abbrev pub NoneInWant : Type 0
+  NoneInWant =
+      (inWant? (onward (opened .paused) (opened .paused) (lastPause full (opened .witness) (opened .records) left ps)) ≡ false)
+      × (inWant? (onward (opened .paused) (opened .paused) (endPause room (opened .witness) (opened .records) left ps)) ≡ false)
 
 -- Any log, right or wrong, in pieces that are cut anywhere, each with any room but the first, which has room for a line; whatever
 -- witness was handed in first. The first piece has the header, or is the log and said to be the last: a call of `open` that
@@ -80,7 +81,7 @@ InPieces =
     (log : List ℕ) → AreBytes log → (room : ℕ) (w : Witness) (last : Bool) (first : Piece) (ps : List Piece)
     → log ≡ first .bytes ++ flatMap (λ p. p .bytes) ps
     → (37 ≤ length (first .bytes)) ⊎ ((last ≡ true) × (flatMap (λ p. p .bytes) ps ≡ []))
-    → lineRoom ≤ first .room → HadRoom room w last first ps
+    → lineRoom ≤ first .room → NoneInWant room w last first ps
     → reportText room w last first ps ≡ report log
 
 -- A call of `open` on fewer bytes than a header's, where more may come, wants more and has done nothing: so a log may be cut in
@@ -88,9 +89,9 @@ InPieces =
 abbrev pub OpenWaits : Type 0
 OpenWaits = (room : ℕ) (w : Witness) (log : List ℕ) → length log < 37 → openCall false room w log ≡ pausedAt [] wants w 0
 
--- A call of `feed` with room for a line, and a number for a record, does not pause for want of room before it has passed a record.
+-- A call of `feed` with room for a line, and a number for a record, does not pause for want of them before it has passed a record.
 abbrev pub FeedGoesOn : Type 0
-FeedGoesOn = (room : ℕ) (w : Witness) (k : ℕ) (s : List ℕ) → lineRoom ≤ room → k < lastNumber → feedCall room w k s .paused ≡ full → 0 < feedCall room w k s .passed
+FeedGoesOn = (room : ℕ) (w : Witness) (k : ℕ) (s : List ℕ) → lineRoom ≤ room → k < lastNumber → inWant? (feedCall room w k s .paused) ≡ true → 0 < feedCall room w k s .passed
 
 -- A call of `close` with room for its text ends the report. No summary has more than 65,536 bytes (crate summary).
 abbrev pub CloseEnds : Type 0

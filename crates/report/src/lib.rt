@@ -16,23 +16,25 @@ ghost use Rattle.model.specs.WellFormed.{WellFormed};
 ghost use Rattle.state.specs.Reading.{outcomeOf};
 ghost use Rattle.state.specs.State.{Typed, modelOf};
 ghost use Rattle.text.specs.Put.{Put};
-ghost use Rattle.report.specs.Feed.{refusedBy, pausedAt, lineRoom, lastNumber, halted, feedFrom, openCall, feedCall, endText, endFed, endCall, IsFed};
+ghost use Rattle.report.specs.Feed.{refusedBy, pausedAt, lineRoom, lastNumber, spent, pausedOf, halted, feedFrom};
+ghost use Rattle.report.specs.Feed.{openCall, feedCall, endText, endFed, endCall, IsFed};
 ghost use Rattle.report.specs.Rows.{rowLines};
 
 // No record has this number, since the one after it would have none.
 const LAST_NUMBER: u64 = 18_446_744_073_709_551_615;
 
-// Why a call paused: it wants the next piece; the buffer has no room for a line, or for the last text, or no record number is
-// left; the report has ended; or row 40.
+// Why a call paused: it wants the next piece; the buffer has no room for a line, or for the last text; no record number
+// is left; the report has ended; or row 40.
 pub enum Pause {
     Wants,
     Full,
+    OutOfNumbers,
     Ended,
     Refused(Refusal),
 }
 
-// Why the call paused, the offset that it reached (0 for `close`, which reads nothing), the number of the next record, how many
-// bytes it wrote, and the witness.
+// Why the call paused, the offset that it reached (0 for `close`, which reads nothing), the number of the next record,
+// how many bytes it wrote, and the witness.
 pub struct Fed {
     pub pause: Pause,
     pub next: usize,
@@ -64,7 +66,8 @@ fn batch(room: usize, numbers: u64) -> usize
 fn refused_lines(buf: &mut [u8], at: usize, k: u64, rows: &[u8]) -> usize
     requires { ⌜ (at + 64 * length (now rows) ≤ length (now buf)) × (k + length (now rows) ≤ lastNumber) ⌝ }
     ensures { λ r. ⌜
-        Put (now (buf .entry)) at (rowLines k (now (rows .entry))) (now (buf .exit)) r × (r ≤ at + 64 * length (now (rows .entry)))
+        Put (now (buf .entry)) at (rowLines k (now (rows .entry))) (now (buf .exit)) r ×
+        (r ≤ at + 64 * length (now (rows .entry)))
         ⌝ }
 {
     let mut end = at;
@@ -113,13 +116,24 @@ fn halt(w: Witness, buf: &mut [u8], at: usize, next: usize, k: u64, o: Outcome) 
     }
 }
 
-// Record after record from `at` on, into a sound witness, with the lines of those that are refused. They are read many at a
-// time: a call that took the state and gave it back for each record would copy it each time.
+// Why no record can be read on: the buffer has no room for a line, or else no number is left.
+fn why_spent(room: usize) -> Pause
+    ensures { λ r. ⌜ pausedOf r ≡ spent room ⌝ }
+{
+    if room < 64 {
+        return Pause::Full;
+    }
+    Pause::OutOfNumbers
+}
+
+// Record after record from `at` on, into a sound witness, with the lines of those that are refused. They are read many
+// at a time: a call that took the state and gave it back for each record would copy it each time.
 fn read_on(w: Witness, records: u64, log: &[u8], at: usize, buf: &mut [u8]) -> Fed
     requires { ⌜ Typed w × WellFormed rootHeight (modelOf w) ⌝ }
     ensures { λ r. ⌜
         IsFed
-        (feedFrom (length (drop at (now (log .entry))) + 1) (length (now (buf .entry))) w records (drop at (now (log .entry))))
+        (feedFrom (length (drop at (now (log .entry))) + 1) (length (now (buf .entry))) w records
+        (drop at (now (log .entry))))
         at
         0
         (now (buf .entry))
@@ -134,8 +148,8 @@ fn read_on(w: Witness, records: u64, log: &[u8], at: usize, buf: &mut [u8]) -> F
     let mut end: usize = 0;
     while (64 <= buf.len() - end) & (k < LAST_NUMBER) {
         let most = batch(buf.len() - end, LAST_NUMBER - k);
-        let r = reader::read_many(held, log, next, &mut rows[..most]);
-        let outcome = r.end;
+        let r = log_reader::read_from(held, log, next, &mut rows[..most]);
+        let ended = r.end;
         let passed = r.records;
         held = r.witness;
         next = r.next;
@@ -143,11 +157,12 @@ fn read_on(w: Witness, records: u64, log: &[u8], at: usize, buf: &mut [u8]) -> F
         k += passed as u64;
         // fewer than may be: the next one cannot be passed
         if passed < most {
+            let outcome = reader::ended_by(ended, Outcome::Nothing);
             return halt(held, buf, end, next, k, outcome);
         }
     }
     Fed {
-        pause: Pause::Full,
+        pause: why_spent(buf.len() - end),
         next,
         records: k,
         written: end,
@@ -155,10 +170,14 @@ fn read_on(w: Witness, records: u64, log: &[u8], at: usize, buf: &mut [u8]) -> F
     }
 }
 
-// The log's first bytes, the header among them: rows 1 to 3 end the report. `last` says that the log has no more bytes; where
-// it may have, fewer than a header's are not yet judged. Any witness may be handed in. The records begin at the offset reached.
+// The log's first bytes, the header among them: rows 1 to 3 end the report. `last` says that the log has no more bytes;
+// where it may have, fewer than a header's are not yet judged. Any witness may be handed in. The records begin at the
+// offset reached.
 pub fn open(w: Witness, log: &[u8], last: bool, buf: &mut [u8]) -> Fed
-    ensures { λ r. ⌜ IsFed (openCall last (length (now (buf .entry))) w (now (log .entry))) 0 0 (now (buf .entry)) r (now (buf .exit)) ⌝ }
+    ensures { λ r. ⌜
+        IsFed (openCall last (length (now (buf .entry))) w (now (log .entry))) 0 0 (now (buf .entry)) r
+        (now (buf .exit))
+        ⌝ }
 {
     if (log.len() < 37) & !last {
         return Fed {
@@ -215,10 +234,12 @@ fn unsound(w: Witness, records: u64, at: usize) -> Fed
     }
 }
 
-// The records of a piece from `at` on, the first of them record `records`: the lines of those that are refused.
+// The records of a piece from `at` on, the first of them record `records`: the lines of those that are refused. After
+// `Ended` no call belongs to the report.
 pub fn feed(w: Witness, records: u64, log: &[u8], at: usize, buf: &mut [u8]) -> Fed
     ensures { λ r. ⌜
-        IsFed (feedCall (length (now (buf .entry))) w records (drop at (now (log .entry)))) at 0 (now (buf .entry)) r (now (buf .exit))
+        IsFed (feedCall (length (now (buf .entry))) w records (drop at (now (log .entry)))) at 0 (now (buf .entry)) r
+        (now (buf .exit))
         ⌝ }
 {
     if !sound::is_sound(w) {
@@ -238,10 +259,13 @@ fn last_text(w: Witness, records: u64, left: usize, text: &mut [u8]) -> usize
     lines::stopped_line(text, 0, Refusal::CutRecord, records)
 }
 
-// The last text, into a buffer that may be too short for it; it is made elsewhere first, so that nothing is written then.
+// The last text, into a buffer that may be too short for it; it is made elsewhere first, so that nothing is written
+// then.
 fn put_end(w: Witness, records: u64, left: usize, buf: &mut [u8]) -> Fed
     requires { ⌜ Typed w × WellFormed rootHeight (modelOf w) ⌝ }
-    ensures { λ r. ⌜ IsFed (endFed (length (now (buf .entry))) w records left) 0 0 (now (buf .entry)) r (now (buf .exit)) ⌝ }
+    ensures { λ r. ⌜
+        IsFed (endFed (length (now (buf .entry))) w records left) 0 0 (now (buf .entry)) r (now (buf .exit))
+        ⌝ }
 {
     let mut whole = [0u8; 65536];
     let n = last_text(w, records, left, &mut whole);
@@ -264,9 +288,12 @@ fn put_end(w: Witness, records: u64, left: usize, buf: &mut [u8]) -> Fed
     }
 }
 
-// The end of the log, where `left` of its bytes were not passed: a record that stays cut, or the summary.
+// The end of the log, where `left` of its bytes were not passed by a `feed` that wanted more: a record that stays cut, or
+// the summary.
 pub fn close(w: Witness, records: u64, left: usize, buf: &mut [u8]) -> Fed
-    ensures { λ r. ⌜ IsFed (endCall (length (now (buf .entry))) w records left) 0 0 (now (buf .entry)) r (now (buf .exit)) ⌝ }
+    ensures { λ r. ⌜
+        IsFed (endCall (length (now (buf .entry))) w records left) 0 0 (now (buf .entry)) r (now (buf .exit))
+        ⌝ }
 {
     if sound::is_sound(w) {
         return put_end(w, records, left, buf);

@@ -1,5 +1,9 @@
 // What document 01's rows decide on a record.
 use model::Height;
+use model::MAX_BOND;
+use model::MAX_CHECKPOINTS;
+use model::MAX_MEMBERS;
+use model::MAX_VOTES;
 use model::Place;
 use model::Refusal;
 use state::Outcome;
@@ -12,14 +16,16 @@ ghost use Rattle.model.specs.Log.{recordLength};
 ghost use Rattle.model.specs.Model.{Model};
 ghost use Rattle.model.specs.Run.{told};
 ghost use Rattle.model.specs.Decide.{membersFixed, decideMember, decideCheckpoint, decideVote, decidePlaces, decide};
+ghost use Rattle.model.specs.Limits.{checkpointLimit, voteLimit};
 ghost use Rattle.search.specs.Chains.{Indexed};
 ghost use Rattle.tables.specs.Places.{Falling};
 ghost use Rattle.state.specs.Reading.{outcomeOf};
 ghost use Rattle.state.specs.Tables.{MembersHeld, NamesHeld, HeightsHeld, AncestorsHeld, KeysHeld, Held, Low};
 ghost use Rattle.rules.specs.Decision.{decisionOf, passedBy, Decides, voteBetween, Within};
 
-// What is decided on a record: nothing is there; a row refuses it, and reading passes so many bytes; or what is to be held: a
-// member's id and bond; the place of a checkpoint's parent, and its own height; a vote's member, source and target.
+// What is decided on a record: nothing is there; a row refuses it, and reading passes so many bytes; or what is to be
+// held: a member's id and bond; the place of a checkpoint's parent, and its own height; a vote's member, source and
+// target.
 pub enum Decision {
     Nothing,
     Refuse(Refusal, usize),
@@ -70,13 +76,13 @@ fn decide_member(ids: &[u16], count: usize, fixed: bool, id: u16, bond: u64) -> 
     if bond == 0 {
         return Decision::Refuse(Refusal::BondOutOfRange, 11);
     }
-    if 1_000_000_000_000 < bond {
+    if MAX_BOND < bond {
         return Decision::Refuse(Refusal::BondOutOfRange, 11);
     }
     if tables::find_id(ids, count, id) < count {
         return Decision::Refuse(Refusal::IdHeld, 11);
     }
-    if 128 <= count {
+    if MAX_MEMBERS <= count {
         return Decision::Refuse(Refusal::MembersFull, 11);
     }
     Decision::Member(id, bond)
@@ -85,12 +91,12 @@ fn decide_member(ids: &[u16], count: usize, fixed: bool, id: u16, bond: u64) -> 
 // Rows 20 to 22, on the checkpoint record at `at`. No height is so large that a child's would not fit.
 fn decide_checkpoint(
     names: &[u8],
-    heights: [Height; 512],
+    heights: [Height; MAX_CHECKPOINTS],
     count: usize,
     log: &[u8],
     at: usize,
 ) -> Decision
-    requires { ⌜ (32 * count ≤ length (now names)) × (count ≤ 512) × (at + 65 ≤ length (now log)) ⌝ }
+    requires { ⌜ (32 * count ≤ length (now names)) × (count ≤ checkpointLimit) × (at + 65 ≤ length (now log)) ⌝ }
     requires { ⌜ Low count heights ⌝ }
     ensures { λ r. ⌜
         ((m : Model)
@@ -110,7 +116,7 @@ fn decide_checkpoint(
     if count <= p {
         return Decision::Refuse(Refusal::ParentNotHeld, 65);
     }
-    if 512 <= count {
+    if MAX_CHECKPOINTS <= count {
         return Decision::Refuse(Refusal::CheckpointsFull, 65);
     }
     let above = heights[p];
@@ -132,7 +138,12 @@ fn find_endpoints<'a>(
     log: &[u8],
     at: usize,
 ) -> Endpoints
-    requires { ⌜ (members ≤ length (now ids)) × (32 * checkpoints ≤ length (now names)) × (checkpoints ≤ 512) × (at + 75 ≤ length (now log)) ⌝ }
+    requires { ⌜
+        (members ≤ length (now ids))
+        × (32 * checkpoints ≤ length (now names))
+        × (checkpoints ≤ checkpointLimit)
+        × (at + 75 ≤ length (now log))
+        ⌝ }
     ensures { λ r. ⌜
         ((m : Model) (sourceHeight targetHeight : ℕ)
         → MembersHeld m (now (ids .entry)) members
@@ -164,8 +175,8 @@ fn find_endpoints<'a>(
 
 // Rows 33 to 36, on a vote between held places.
 fn decide_places<'a>(
-    parents: [Place; 512],
-    heights: [Height; 512],
+    parents: [Place; MAX_CHECKPOINTS],
+    heights: [Height; MAX_CHECKPOINTS],
     checkpoints: usize,
     keys: &'a [u64],
     heads: &'a [u16],
@@ -177,8 +188,10 @@ fn decide_places<'a>(
     source_height: Height,
     target_height: Height,
 ) -> Decision
-    requires { ⌜ (checkpoints ≤ 512) × (s .0 < checkpoints) × (t .0 < checkpoints) × Falling checkpoints parents ⌝ }
-    requires { ⌜ (votes ≤ 4096) × Indexed votes (now keys) (now heads) (now nexts) ⌝ }
+    requires { ⌜
+        (checkpoints ≤ checkpointLimit) × (s .0 < checkpoints) × (t .0 < checkpoints) × Falling checkpoints parents
+        ⌝ }
+    requires { ⌜ (votes ≤ voteLimit) × Indexed votes (now keys) (now heads) (now nexts) ⌝ }
     ensures { λ r. ⌜
         ((m : Model) (from : List ℕ)
         → HeightsHeld m heights checkpoints
@@ -208,7 +221,7 @@ fn decide_places<'a>(
     if search::number_linked(keys, heads, nexts, votes, key) {
         return Decision::Refuse(Refusal::VoteHeld, 75);
     }
-    if 4096 <= votes {
+    if MAX_VOTES <= votes {
         return Decision::Refuse(Refusal::VotesFull, 75);
     }
     Decision::Vote(id, s, t)
@@ -219,8 +232,8 @@ fn decide_vote<'a>(
     ids: &'a [u16],
     members: usize,
     names: &'a [u8],
-    parents: [Place; 512],
-    heights: [Height; 512],
+    parents: [Place; MAX_CHECKPOINTS],
+    heights: [Height; MAX_CHECKPOINTS],
     checkpoints: usize,
     keys: &'a [u64],
     heads: &'a [u16],
@@ -229,8 +242,15 @@ fn decide_vote<'a>(
     log: &[u8],
     at: usize,
 ) -> Decision
-    requires { ⌜ (members ≤ length (now ids)) × (32 * checkpoints ≤ length (now names)) × (checkpoints ≤ 512) × Falling checkpoints parents ⌝ }
-    requires { ⌜ (votes ≤ 4096) × Indexed votes (now keys) (now heads) (now nexts) × (at + 75 ≤ length (now log)) ⌝ }
+    requires { ⌜
+        (members ≤ length (now ids))
+        × (32 * checkpoints ≤ length (now names))
+        × (checkpoints ≤ checkpointLimit)
+        × Falling checkpoints parents
+        ⌝ }
+    requires { ⌜
+        (votes ≤ voteLimit) × Indexed votes (now keys) (now heads) (now nexts) × (at + 75 ≤ length (now log))
+        ⌝ }
     ensures { λ r. ⌜
         ((m : Model)
         → Held m (now (ids .entry)) members (now (names .entry)) parents heights checkpoints (now (keys .entry)) votes
@@ -269,15 +289,15 @@ fn decide_vote<'a>(
     }
 }
 
-// The record at `at`: the kind byte chooses the record's length and its decoder. Row 4 where the kind is unknown, row 5 where the
-// log ends before the record does, then the rows of the kind. The arrays are those of a sound witness; the votes come as numbers
-// in chains, so that one is looked for among few.
+// The record at `at`: the kind byte chooses the record's length and its decoder. Row 4 where the kind is unknown, row 5
+// where the log ends before the record does, then the rows of the kind. The arrays are those of a sound witness; the
+// votes come as numbers in chains, so that one is looked for among few.
 pub fn decide_record<'a>(
     ids: &'a [u16],
     members: usize,
     names: &'a [u8],
-    parents: [Place; 512],
-    heights: [Height; 512],
+    parents: [Place; MAX_CHECKPOINTS],
+    heights: [Height; MAX_CHECKPOINTS],
     checkpoints: usize,
     keys: &'a [u64],
     heads: &'a [u16],
@@ -286,12 +306,18 @@ pub fn decide_record<'a>(
     log: &[u8],
     at: usize,
 ) -> Decision
-    requires { ⌜ (members ≤ length (now ids)) × (32 * checkpoints ≤ length (now names)) × (checkpoints ≤ 512) × Falling checkpoints parents ⌝ }
-    requires { ⌜ (votes ≤ 4096) × Indexed votes (now keys) (now heads) (now nexts) × Low checkpoints heights ⌝ }
+    requires { ⌜
+        (members ≤ length (now ids))
+        × (32 * checkpoints ≤ length (now names))
+        × (checkpoints ≤ checkpointLimit)
+        × Falling checkpoints parents
+        ⌝ }
+    requires { ⌜ (votes ≤ voteLimit) × Indexed votes (now keys) (now heads) (now nexts) × Low checkpoints heights ⌝ }
     ensures { λ r. ⌜
         ((m : Model)
         → Held m (now (ids .entry)) members (now (names .entry)) parents heights checkpoints (now (keys .entry)) votes
-        → Decides (drop at (now (log .entry))) (decide m (drop at (now (log .entry)))) (recordLength (drop at (now (log .entry)))) r)
+        → Decides (drop at (now (log .entry))) (decide m (drop at (now (log .entry))))
+        (recordLength (drop at (now (log .entry)))) r)
         ⌝ }
 {
     if log.len() <= at {

@@ -6,6 +6,7 @@ use mathlib.Core.List.{List}
 use mathlib.Core.Bool.{Bool, true, cond}
 use lib.Dec.{eqb}
 use lib.ListN.{length, getD}
+use Rattle.model.specs.Limits.{voteLimit}
 
 -- the last number below n that passes the test, plus 1; 0 where none does
 unfoldable pub lastBelow : ℕ → (ℕ → Bool) → ℕ
@@ -14,7 +15,7 @@ lastBelow (suc n) p = cond (p n) (suc n) (lastBelow n p)
 
 -- each number below `count` leads to the last before it that has its slot
 pub record Linked (slot : ℕ → ℕ) (count : ℕ) (next : List ℕ) : Type 0 where
-  pub long : length next ≡ 4096
+  pub long : length next ≡ voteLimit
   pub nexts : (k : ℕ) → k < count → getD next k 0 ≡ lastBelow k (λ i. eqb (slot i) (slot k))
 
 -- the numbers below `count` are in chains, by slots below `size`
@@ -33,6 +34,6 @@ slotOf numbers k = getD numbers k 0 % 4093
 
 -- the first `count` numbers are in chains by their slots
 pub record Indexed (count : ℕ) (numbers heads nexts : List ℕ) : Type 0 where
-  pub numbers-long : length numbers ≡ 4096
+  pub numbers-long : length numbers ≡ voteLimit
   pub heads-long : length heads ≡ 4093
   pub bucketed : Bucketed (slotOf numbers) 4093 count heads nexts

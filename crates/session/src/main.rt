@@ -1,12 +1,14 @@
-// The worked session of document 01, read record by record: what each reading comes to, then the standings, the conflict
-// answer, our list and what the checker says of it.
+// The worked session of document 01, read record by record: what each reading comes to, then the standings, the
+// conflict answer, our list and what the checker says of it. Then the same log by the calls that read many records: in
+// batches, whole, and asked.
 use checker::CheckAnswer;
 use evidence::ListAnswer;
 use libc::STDOUT_FILENO;
-use model::Height;
 use model::Place;
 use model::Refusal;
 use model::Status;
+use reader::Batch;
+use reader::End;
 use state::Outcome;
 use state::Witness;
 use witness::ConflictAnswer;
@@ -1032,6 +1034,10 @@ fn say_reading(k: u64, o: Outcome) -> bool {
     io::write_all(STDOUT_FILENO, b"record ");
     io::print_decimal(STDOUT_FILENO, k);
     io::write_all(STDOUT_FILENO, b" ");
+    say_outcome(o)
+}
+
+fn say_outcome(o: Outcome) -> bool {
     match o {
         Outcome::Nothing => {
             io::write_all(STDOUT_FILENO, b"nothing left\n");
@@ -1066,8 +1072,8 @@ fn read_all(w: Witness, log: &[u8]) -> Witness {
     w
 }
 
-fn say_status(w: Witness, p: u16) {
-    match witness::status(w, Place(p)) {
+fn say_standing(a: StatusAnswer) {
+    match a {
         StatusAnswer::Is(s) => match s {
             Status::Plain => {
                 io::write_all(STDOUT_FILENO, b"plain\n");
@@ -1081,6 +1087,10 @@ fn say_status(w: Witness, p: u16) {
         },
         StatusAnswer::Refused(r) => say_refused(r),
     }
+}
+
+fn say_status(w: Witness, p: u16) {
+    say_standing(witness::status(w, Place(p)));
 }
 
 fn say_support(w: Witness, s: u16, t: u16) {
@@ -1099,8 +1109,8 @@ fn say_support(w: Witness, s: u16, t: u16) {
     }
 }
 
-fn say_conflict(w: Witness) {
-    match witness::conflict(w) {
+fn say_conflict(a: ConflictAnswer) {
+    match a {
         ConflictAnswer::Is(b) => {
             if b {
                 io::write_all(STDOUT_FILENO, b"conflict yes\n");
@@ -1125,12 +1135,8 @@ fn say_bytes(s: &[u8]) {
     }
 }
 
-// What the checker says of the first 13 bytes.
-fn say_check(w: Witness, s: &[u8]) {
-    if s.len() < 13 {
-        return;
-    }
-    match witness::check_list(w, &s[..13]) {
+fn say_sum(a: CheckAnswer) {
+    match a {
         CheckAnswer::Sum(n) => {
             io::write_all(STDOUT_FILENO, b"sum ");
             io::print_decimal(STDOUT_FILENO, n);
@@ -1140,18 +1146,84 @@ fn say_check(w: Witness, s: &[u8]) {
     }
 }
 
-// Our list in a buffer of 16 bytes, whole, and what the checker says of it.
-fn say_list(w: Witness) {
-    let mut buf = [255u8; 16];
-    match witness::write_list(w, &mut buf) {
+// The answer of a call that writes our list, and the whole buffer.
+fn say_written(a: ListAnswer, buf: &[u8]) {
+    match a {
         ListAnswer::Length(n) => {
             io::print_decimal(STDOUT_FILENO, n as u64);
         }
         ListAnswer::Refused(r) => say_refused(r),
     }
-    say_bytes(&buf);
+    say_bytes(buf);
     io::write_all(STDOUT_FILENO, b"\n");
+}
+
+// What the checker says of the first 13 bytes.
+fn say_check(w: Witness, s: &[u8]) {
+    if s.len() < 13 {
+        return;
+    }
+    say_sum(witness::check_list(w, &s[..13]));
+}
+
+// Our list in a buffer of 16 bytes, whole, and what the checker says of it.
+fn say_list(w: Witness) {
+    let mut buf = [255u8; 16];
+    let answer = witness::write_list(w, &mut buf);
+    say_written(answer, &buf);
     say_check(w, &buf);
+}
+
+// A batch of at most ten records: how many were passed, the ten rows, and why there were no more.
+fn say_batch(w: Witness, log: &[u8], at: usize) -> Batch {
+    let mut rows = [255u8; 10];
+    let batch = witness::read_many(w, log, at, &mut rows);
+    io::print_decimal(STDOUT_FILENO, batch.records as u64);
+    io::write_all(STDOUT_FILENO, b" records:");
+    say_bytes(&rows);
+    io::write_all(STDOUT_FILENO, b"; ");
+    let end = batch.end;
+    match end {
+        End::RowsUsed => {
+            io::write_all(STDOUT_FILENO, b"rows used\n");
+        }
+        End::EndedBy(o) => {
+            say_outcome(o);
+        }
+    }
+    batch
+}
+
+// The log in batches.
+fn say_batches(w: Witness, log: &[u8]) {
+    let first = say_batch(w, log, 37);
+    let second = say_batch(first.witness, log, first.next);
+    say_conflict(witness::conflict(second.witness));
+}
+
+// Its first 50 bytes, of which the last two are a cut record.
+fn say_cut(w: Witness, log: &[u8]) {
+    if log.len() < 50 {
+        return;
+    }
+    say_batch(w, &log[..50], 37);
+}
+
+// What the log answers after so many of its records: on place 4, on our list, and on the list of document 01.
+fn say_asked(log: &[u8], limit: u64) {
+    let list = [70u8, 70, 80, 0, 1, 0, 1, 0, 2, 0, 1, 0, 4];
+    let mut buf = [255u8; 16];
+    let answers = guarantee::ask(blank::blank(), log, limit, Place(4), &list, &mut buf);
+    let last = answers.last;
+    let status = answers.status;
+    let conflict = answers.conflict;
+    let ours = answers.ours;
+    let theirs = answers.theirs;
+    say_reading(answers.records, last);
+    say_standing(status);
+    say_conflict(conflict);
+    say_written(ours, &buf);
+    say_sum(theirs);
 }
 
 fn main() {
@@ -1168,13 +1240,18 @@ fn main() {
     say_support(w, 0, 2);
     say_support(w, 2, 4);
     say_support(w, 1, 2);
-    say_conflict(w);
+    say_conflict(witness::conflict(w));
     say_list(w);
     let replayed = guarantee::replay(blank::blank(), &LOG, 64);
     let read = replayed.read;
     let last = read.last;
     let whole = read.witness;
     say_reading(read.records, last);
-    say_conflict(whole);
+    say_conflict(witness::conflict(whole));
     say_list(whole);
+    say_batches(begun.witness, &LOG);
+    say_cut(begun.witness, &LOG);
+    say_asked(&LOG, 64);
+    say_asked(&LOG, 12);
+    say_asked(&LOG[..36], 64);
 }

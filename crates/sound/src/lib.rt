@@ -1,4 +1,7 @@
 // Row 40: whether a state that was handed in is one that the rules allow.
+use model::MAX_CHECKPOINTS;
+use model::MAX_MEMBERS;
+use model::MAX_VOTES;
 use state::Witness;
 ghost use mathlib.Core.Path.{_≡_};
 ghost use Rattle.model.specs.Limits.{rootHeight};
@@ -15,13 +18,13 @@ pub fn is_sound(w: Witness) -> bool
     if checkpoints == 0 {
         return false;
     }
-    if 128 < members {
+    if MAX_MEMBERS < members {
         return false;
     }
-    if 512 < checkpoints {
+    if MAX_CHECKPOINTS < checkpoints {
         return false;
     }
-    if 4096 < votes {
+    if MAX_VOTES < votes {
         return false;
     }
     if !tables::members::bonds_in_range(&w.bonds, members) {

@@ -1,5 +1,6 @@
-// Which places of a sound state are justified, which of them have a supermajority link to a direct child, and so the standing
-// of each.
+// Which places of a sound state are justified, which of them have a supermajority link to a direct child, and so the
+// standing of each.
+use model::MAX_CHECKPOINTS;
 use model::Place;
 use model::Status;
 use state::Witness;
@@ -10,6 +11,7 @@ ghost use mathlib.Core.Path.{_≡_};
 ghost use Prim.Native.Nat.{_<_};
 ghost use lib.ListN.{length};
 ghost use Rattle.model.specs.Finality.{status};
+ghost use Rattle.model.specs.Limits.{checkpointLimit};
 ghost use Rattle.model.specs.Model.{Model};
 ghost use Rattle.state.specs.State.{modelOf};
 ghost use Rattle.tally.specs.Ready.{Sound};
@@ -17,12 +19,12 @@ ghost use Rattle.standing.specs.Answers.{IsAnalysis};
 
 // For each place whether it is justified, and whether a supermajority link leads from it to a direct child.
 pub struct Analysis {
-    pub justified: [bool; 512],
-    pub finalizing: [bool; 512],
+    pub justified: [bool; MAX_CHECKPOINTS],
+    pub finalizing: [bool; MAX_CHECKPOINTS],
 }
 
-// One pass over the places. Places below t are marked when the links to t are counted, for a source's place is below its
-// target's.
+// One pass over the places. Places below t are marked when the links to t are counted, for a source's place is below
+// its target's.
 pub fn statuses(w: Witness) -> Analysis
     requires { ⌜ Sound w ⌝ }
     ensures { λ r. ⌜ IsAnalysis (modelOf w) r ⌝ }
@@ -36,13 +38,14 @@ pub fn statuses(w: Witness) -> Analysis
     let head = b.head;
     let next = b.next;
     let total = b.total;
-    let mut justified = [false; 512];
-    let mut finalizing = [false; 512];
+    let mut justified = [false; MAX_CHECKPOINTS];
+    let mut finalizing = [false; MAX_CHECKPOINTS];
     justified[0] = true;
     let mut t: usize = 1;
     while t < places {
         let tally = votes::gather(&who, sources, &next, head[t]);
-        let reached = links::reaches(tally, &justified, t, &w.bonds, members, total);
+        let to = t as u16;
+        let reached = links::reaches(tally, &justified, Place(to), &w.bonds, members, total);
         justified[t] = reached;
         let parent = parents[t];
         let p = parent.0 as usize;
@@ -58,7 +61,7 @@ pub fn statuses(w: Witness) -> Analysis
 
 // The standing of a held place, by the analysis of its model.
 pub fn status_of(a: Analysis, p: Place) -> Status
-    requires { ⌜ p .0 < 512 ⌝ }
+    requires { ⌜ p .0 < checkpointLimit ⌝ }
     ensures { λ r. ⌜ ((m : Model) → IsAnalysis m a → p .0 < length (m .checkpoints) → r ≡ status m (p .0)) ⌝ }
 {
     let at = p.0 as usize;

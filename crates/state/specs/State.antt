@@ -6,6 +6,7 @@ use lib.ListN.{length, getD, set, replicate}
 use lib.Seq.{paste}
 use Rattle.model.specs.Answer.{Answer, refused, answer}
 use Rattle.model.specs.Bytes.{part}
+use Rattle.model.specs.Limits.{memberLimit, checkpointLimit, voteLimit}
 use Rattle.model.specs.Lists.{tabulate}
 use Rattle.model.specs.Model.{Member, Checkpoint, Vote, Model, Change, nothing, addMember, addCheckpoint, addVote}
 use Rattle.model.specs.declared.Place.{Place}
@@ -99,14 +100,14 @@ store w (answer (addVote v)) = withVote w v
 -- what the types of the fields say: the arrays' lengths, and that an id is of 16 bits
 
 pub record Sized (w : Witness) : Type 0 where
-  pub ids : length (w .ids) ≡ 128
-  pub bonds : length (w .bonds) ≡ 128
-  pub names : length (w .names) ≡ 16384
-  pub parents : length (w .parents) ≡ 512
-  pub heights : length (w .heights) ≡ 512
-  pub voters : length (w .voters) ≡ 4096
-  pub sources : length (w .sources) ≡ 4096
-  pub targets : length (w .targets) ≡ 4096
+  pub ids : length (w .ids) ≡ memberLimit
+  pub bonds : length (w .bonds) ≡ memberLimit
+  pub names : length (w .names) ≡ 32 * checkpointLimit
+  pub parents : length (w .parents) ≡ checkpointLimit
+  pub heights : length (w .heights) ≡ checkpointLimit
+  pub voters : length (w .voters) ≡ voteLimit
+  pub sources : length (w .sources) ≡ voteLimit
+  pub targets : length (w .targets) ≡ voteLimit
 
 pub record Typed (w : Witness) : Type 0 where
   pub sized : Sized w
@@ -116,14 +117,14 @@ pub record Typed (w : Witness) : Type 0 where
 unfoldable pub emptyWitness : List ℕ → Witness
 emptyWitness name =
     record {
-      ids = replicate 128 0;
-      bonds = replicate 128 0;
-      names = paste (replicate 16384 0) 0 name 32;
-      parents = replicate 512 (place 0);
-      heights = replicate 512 (height 0);
-      voters = replicate 4096 0;
-      sources = replicate 4096 (place 0);
-      targets = replicate 4096 (place 0);
+      ids = replicate memberLimit 0;
+      bonds = replicate memberLimit 0;
+      names = paste (replicate (32 * checkpointLimit) 0) 0 name 32;
+      parents = replicate checkpointLimit (place 0);
+      heights = replicate checkpointLimit (height 0);
+      voters = replicate voteLimit 0;
+      sources = replicate voteLimit (place 0);
+      targets = replicate voteLimit (place 0);
       «member_count» = 0;
       «checkpoint_count» = 1;
       «vote_count» = 0;

@@ -1,12 +1,17 @@
 // The witness's state, and what a header begins.
 use model::Height;
+use model::MAX_CHECKPOINTS;
+use model::MAX_MEMBERS;
+use model::MAX_VOTES;
+use model::NAME_BYTES;
 use model::Place;
 use model::Refusal;
 ghost use mathlib.Core.Path.{_≡_};
-ghost use Prim.Native.Nat.{_+_, _≤_};
+ghost use Prim.Native.Nat.{_+_, _*_, _≤_};
 ghost use lib.ListN.{length, take, drop};
 ghost use lib.Seq.{paste};
 ghost use Rattle.model.specs.Bytes.{part, ascii};
+ghost use Rattle.model.specs.Limits.{checkpointLimit};
 ghost use Rattle.model.specs.Lists.{sameBytes};
 ghost use Rattle.model.specs.Log.{header};
 ghost use Rattle.state.specs.State.{emptyWitness};
@@ -16,14 +21,14 @@ ghost use Rattle.state.specs.Reading.{IsBeginning};
 // A name is 32 bytes of `names`, at 32 times its place.
 #[repr(C)]
 pub struct Witness {
-    pub ids: [u16; 128],
-    pub bonds: [u64; 128],
-    pub names: [u8; 16384],
-    pub parents: [Place; 512],
-    pub heights: [Height; 512],
-    pub voters: [u16; 4096],
-    pub sources: [Place; 4096],
-    pub targets: [Place; 4096],
+    pub ids: [u16; MAX_MEMBERS],
+    pub bonds: [u64; MAX_MEMBERS],
+    pub names: [u8; NAME_BYTES],
+    pub parents: [Place; MAX_CHECKPOINTS],
+    pub heights: [Height; MAX_CHECKPOINTS],
+    pub voters: [u16; MAX_VOTES],
+    pub sources: [Place; MAX_VOTES],
+    pub targets: [Place; MAX_VOTES],
     pub member_count: usize,
     pub checkpoint_count: usize,
     pub vote_count: usize,
@@ -44,8 +49,12 @@ pub struct Reading {
 }
 
 // The 32 bytes of the log at `from`, into the table at `at`.
-pub fn copy_name(names: &mut [u8; 16384], at: usize, log: &[u8], from: usize)
-    requires { ⌜ (length (now names) ≡ 16384) × (at + 32 ≤ 16384) × (from + 32 ≤ length (now log)) ⌝ }
+pub fn copy_name(names: &mut [u8; NAME_BYTES], at: usize, log: &[u8], from: usize)
+    requires { ⌜
+        (length (now names) ≡ 32 * checkpointLimit)
+        × (at + 32 ≤ 32 * checkpointLimit)
+        × (from + 32 ≤ length (now log))
+        ⌝ }
     ensures { λ _. ⌜ now (names .exit) ≡ paste (now (names .entry)) at (drop from (now (log .entry))) 32 ⌝ }
 {
     let mut i: usize = 0;
@@ -60,17 +69,17 @@ fn empty(log: &[u8]) -> Witness
     requires { ⌜ 37 ≤ length (now log) ⌝ }
     ensures { λ r. ⌜ r ≡ emptyWitness (part 5 32 (now (log .entry))) ⌝ }
 {
-    let mut names = [0u8; 16384];
+    let mut names = [0u8; NAME_BYTES];
     copy_name(&mut names, 0, log, 5);
     Witness {
-        ids: [0u16; 128],
-        bonds: [0u64; 128],
+        ids: [0u16; MAX_MEMBERS],
+        bonds: [0u64; MAX_MEMBERS],
         names,
-        parents: [Place(0); 512],
-        heights: [Height(0); 512],
-        voters: [0u16; 4096],
-        sources: [Place(0); 4096],
-        targets: [Place(0); 4096],
+        parents: [Place(0); MAX_CHECKPOINTS],
+        heights: [Height(0); MAX_CHECKPOINTS],
+        voters: [0u16; MAX_VOTES],
+        sources: [Place(0); MAX_VOTES],
+        targets: [Place(0); MAX_VOTES],
         member_count: 0,
         checkpoint_count: 1,
         vote_count: 0,

@@ -11,7 +11,8 @@ ghost use Rattle.text.specs.Put.{Put};
 pub fn checkpoint_lines(w: Witness, buf: &mut [u8], at: usize) -> usize
     requires { ⌜ Sound w × (at + 80 * w .«checkpoint_count» ≤ length (now buf)) ⌝ }
     ensures { λ r. ⌜
-        Put (now (buf .entry)) at (checkpointLines (modelOf w) (w .«checkpoint_count»)) (now (buf .exit)) r × (r ≤ at + 80 * w .«checkpoint_count»)
+        Put (now (buf .entry)) at (checkpointLines (modelOf w) (w .«checkpoint_count»)) (now (buf .exit)) r ×
+        (r ≤ at + 80 * w .«checkpoint_count»)
         ⌝ }
 {
     let count = w.checkpoint_count;

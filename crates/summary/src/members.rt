@@ -1,5 +1,6 @@
 // The lines of the members, by rising id, and the bonds of those who broke a rule.
 use conduct::Conduct;
+use model::MAX_MEMBERS;
 use state::Witness;
 ghost use mathlib.Core.Path.{_≡_};
 ghost use mathlib.Core.List.{flatMap};
@@ -16,7 +17,9 @@ ghost use Rattle.text.specs.Put.{Put};
 // A member's line.
 pub fn member_line(buf: &mut [u8], at: usize, id: u16, bond: u64, shown: Conduct) -> usize
     requires { ⌜ at + 112 ≤ length (now buf) ⌝ }
-    ensures { λ r. ⌜ Put (now (buf .entry)) at (memberText id bond (conductOf shown)) (now (buf .exit)) r × (r ≤ at + 112) ⌝ }
+    ensures { λ r. ⌜
+        Put (now (buf .entry)) at (memberText id bond (conductOf shown)) (now (buf .exit)) r × (r ≤ at + 112)
+        ⌝ }
 {
     match shown {
         Conduct::Clear => lines::clear_line(buf, at, id, bond),
@@ -25,10 +28,11 @@ pub fn member_line(buf: &mut [u8], at: usize, id: u16, bond: u64, shown: Conduct
 }
 
 // The line of each member, with what its votes show.
-pub fn member_lines(w: Witness, shown: [Conduct; 128], buf: &mut [u8], at: usize) -> usize
+pub fn member_lines(w: Witness, shown: [Conduct; MAX_MEMBERS], buf: &mut [u8], at: usize) -> usize
     requires { ⌜ Sound w × Shown w shown × (at + 112 * w .«member_count» ≤ length (now buf)) ⌝ }
     ensures { λ r. ⌜
-        Put (now (buf .entry)) at (flatMap (memberLine (modelOf w)) (byId (modelOf w .members))) (now (buf .exit)) r × (r ≤ at + 112 * w .«member_count»)
+        Put (now (buf .entry)) at (flatMap (memberLine (modelOf w)) (byId (modelOf w .members))) (now (buf .exit)) r ×
+        (r ≤ at + 112 * w .«member_count»)
         ⌝ }
 {
     let count = w.member_count;
@@ -55,7 +59,7 @@ fn is_broken(shown: Conduct) -> bool
 }
 
 // The bonds of the members who broke a rule.
-pub fn named_bonds(w: Witness, shown: [Conduct; 128]) -> u64
+pub fn named_bonds(w: Witness, shown: [Conduct; MAX_MEMBERS]) -> u64
     requires { ⌜ Sound w × Shown w shown ⌝ }
     ensures { λ r. ⌜ r ≡ sum (violator? (modelOf w)) (modelOf w .members) ⌝ }
 {

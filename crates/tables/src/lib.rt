@@ -1,5 +1,5 @@
-// Searches over the held tables: the ids of the members, and the flat table of the checkpoints' names. What the tables hold
-// as a whole is asked in the modules: of the members, of the tree, of the votes.
+// Searches over the held tables: the ids of the members, and the flat table of the checkpoints' names. What the tables
+// hold as a whole is asked in the modules: of the members, of the tree, of the votes.
 ghost use mathlib.Core.Path.{_≡_};
 ghost use Prim.Native.Nat.{_+_, _*_, _≤_};
 ghost use lib.Dec.{eqb};
@@ -31,7 +31,9 @@ pub fn find_id(ids: &[u16], count: usize, id: u16) -> usize
 // often the last byte tells two names apart.
 pub fn find_name(names: &[u8], count: usize, s: &[u8], at: usize) -> usize
     requires { ⌜ (32 * count ≤ length (now names)) × (at + 32 ≤ length (now s)) ⌝ }
-    ensures { λ r. ⌜ r ≡ firstIndex (λ n. sameBytes n (part at 32 (now (s .entry)))) (rows count (now (names .entry))) ⌝ }
+    ensures { λ r. ⌜
+        r ≡ firstIndex (λ n. sameBytes n (part at 32 (now (s .entry)))) (rows count (now (names .entry)))
+        ⌝ }
 {
     let mut i: usize = 0;
     while i < count {

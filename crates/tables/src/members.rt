@@ -11,7 +11,9 @@ ghost use Rattle.model.specs.Lists.{anyBelow, allBelow, pairBelow};
 // Whether each of the `count` bonds is at least 1 and at most the limit.
 pub fn bonds_in_range(bonds: &[u64], count: usize) -> bool
     requires { ⌜ count ≤ length (now bonds) ⌝ }
-    ensures { λ r. ⌜ r ≡ allBelow count (λ i. ltb 0 (getD (now (bonds .entry)) i 0) && leb (getD (now (bonds .entry)) i 0) bondLimit) ⌝ }
+    ensures { λ r. ⌜
+        r ≡ allBelow count (λ i. ltb 0 (getD (now (bonds .entry)) i 0) && leb (getD (now (bonds .entry)) i 0) bondLimit)
+        ⌝ }
 {
     let mut ok = true;
     let mut i: usize = 0;

@@ -1,22 +1,24 @@
 // The held checkpoints, three tables: of their names, of their parents and of their heights.
 use crate::find_name;
 use model::Height;
+use model::MAX_CHECKPOINTS;
 use model::Place;
 use search::numbers_twice;
 ghost use mathlib.Core.Path.{_≡_};
 ghost use Prim.Native.Nat.{ℕ, _*_, _≤_, _<_};
 ghost use lib.ListN.{length, getD};
 ghost use Rattle.model.specs.Bytes.{part, field};
+ghost use Rattle.model.specs.Limits.{checkpointLimit};
 ghost use Rattle.model.specs.Lists.{allBelow, pairBelow, sameBytes};
 ghost use Rattle.model.specs.Tree.{ancestor?};
 ghost use Rattle.tables.specs.Places.{treeOf, isStep, Falling};
 
 // The first 8 bytes of each name, as a number.
-fn first_bytes(names: &[u8], count: usize) -> [u64; 512]
-    requires { ⌜ (32 * count ≤ length (now names)) × (count ≤ 512) ⌝ }
+fn first_bytes(names: &[u8], count: usize) -> [u64; MAX_CHECKPOINTS]
+    requires { ⌜ (32 * count ≤ length (now names)) × (count ≤ checkpointLimit) ⌝ }
     ensures { λ r. ⌜ ((k : ℕ) → k < count → getD r k 0 ≡ field (k * 32) 8 (now (names .entry))) ⌝ }
 {
-    let mut numbers = [0u64; 512];
+    let mut numbers = [0u64; MAX_CHECKPOINTS];
     let mut k: usize = 0;
     while k < count {
         numbers[k] = wire::be64(names, k * 32);
@@ -25,10 +27,15 @@ fn first_bytes(names: &[u8], count: usize) -> [u64; 512]
     numbers
 }
 
-// Whether some name stands twice among the `count` names. Most often their first bytes tell two names apart; where they do not, each name is looked for among those before it.
+// Whether some name stands twice among the `count` names. Most often their first bytes tell two names apart; where they
+// do not, each name is looked for among those before it.
 pub fn names_twice(names: &[u8], count: usize) -> bool
-    requires { ⌜ (32 * count ≤ length (now names)) × (count ≤ 512) ⌝ }
-    ensures { λ r. ⌜ r ≡ pairBelow count (λ i j. sameBytes (part (i * 32) 32 (now (names .entry))) (part (j * 32) 32 (now (names .entry)))) ⌝ }
+    requires { ⌜ (32 * count ≤ length (now names)) × (count ≤ checkpointLimit) ⌝ }
+    ensures { λ r. ⌜
+        r
+        ≡ pairBelow count
+        (λ i j. sameBytes (part (i * 32) 32 (now (names .entry))) (part (j * 32) 32 (now (names .entry))))
+        ⌝ }
 {
     let firsts = first_bytes(names, count);
     if !numbers_twice(&firsts, count) {
@@ -44,8 +51,12 @@ pub fn names_twice(names: &[u8], count: usize) -> bool
 }
 
 // Whether each checkpoint but the root has its parent at a smaller place, at a height one less than its own.
-pub fn tree_sound(parents: [Place; 512], heights: [Height; 512], count: usize) -> bool
-    requires { ⌜ count ≤ 512 ⌝ }
+pub fn tree_sound(
+    parents: [Place; MAX_CHECKPOINTS],
+    heights: [Height; MAX_CHECKPOINTS],
+    count: usize,
+) -> bool
+    requires { ⌜ count ≤ checkpointLimit ⌝ }
     ensures { λ r. ⌜ r ≡ allBelow count (λ i. isStep parents heights i) ⌝ }
 {
     let mut i: usize = 1;
@@ -66,8 +77,8 @@ pub fn tree_sound(parents: [Place; 512], heights: [Height; 512], count: usize) -
 }
 
 // Whether s is an ancestor of t: the walk from t by parents, whose places fall, stops at s or below it.
-pub fn is_ancestor(parents: [Place; 512], count: usize, s: Place, t: Place) -> bool
-    requires { ⌜ (count ≤ 512) × (t .0 < count) × Falling count parents ⌝ }
+pub fn is_ancestor(parents: [Place; MAX_CHECKPOINTS], count: usize, s: Place, t: Place) -> bool
+    requires { ⌜ (count ≤ checkpointLimit) × (t .0 < count) × Falling count parents ⌝ }
     ensures { λ r. ⌜ r ≡ ancestor? (treeOf count parents) (s .0) (t .0) ⌝ }
 {
     let mut at = t.0;

@@ -4,6 +4,7 @@ use mathlib.Core.List.{List}
 use mathlib.Core.Bool.{Bool, _&&_}
 use lib.Dec.{eqb}
 use lib.ListN.{length, getD}
+use Rattle.model.specs.Limits.{memberLimit, checkpointLimit, voteLimit}
 use Rattle.model.specs.declared.Place.{Place}
 use Rattle.tables.specs.Places.{placeAt}
 use Rattle.search.specs.Chains.{Bucketed}
@@ -23,13 +24,13 @@ casts who sources s i k = eqb (getD who k 0) i && eqb (placeAt sources k) s
 
 -- the first `count` votes are in chains by target
 abbrev pub ByTarget : List Place → ℕ → List ℕ → List ℕ → Type 0
-ByTarget targets count head next = Bucketed (λ k. placeAt targets k) 512 count head next
+ByTarget targets count head next = Bucketed (λ k. placeAt targets k) checkpointLimit count head next
 
 -- every vote below n is of a held member, from a held place, and its chain goes on with an earlier one
 pub record Walkable (who : List ℕ) (sources : List Place) (next : List ℕ) (n : ℕ) : Type 0 where
-  pub fit : n ≤ 4096
+  pub fit : n ≤ voteLimit
   pub who-long : n ≤ length who
   pub next-long : n ≤ length next
-  pub member : (k : ℕ) → k < n → getD who k 0 < 128
-  pub source : (k : ℕ) → k < n → placeAt sources k < 512
+  pub member : (k : ℕ) → k < n → getD who k 0 < memberLimit
+  pub source : (k : ℕ) → k < n → placeAt sources k < checkpointLimit
   pub earlier : (k : ℕ) → k < n → getD next k 0 ≤ k

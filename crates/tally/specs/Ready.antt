@@ -4,7 +4,7 @@ use mathlib.Core.Path.{_≡_}
 use mathlib.Core.Bool.{true}
 use lib.Dec.{eqb}
 use lib.ListN.{length, getD, take}
-use Rattle.model.specs.Limits.{rootHeight}
+use Rattle.model.specs.Limits.{voteLimit, rootHeight}
 use Rattle.model.specs.Lists.{firstIndex}
 use Rattle.model.specs.WellFormed.{WellFormed}
 use Rattle.state.specs.declared.Witness.{Witness}
@@ -21,7 +21,7 @@ pub record Sound (w : Witness) : Type 0 where
 -- each vote's member is found, the votes are in chains by target, and the bonds are summed
 pub record Ready (w : Witness) (b : Ballots) : Type 0 where
   pub sound : Sound w
-  pub long : length (b .who) ≡ 4096
+  pub long : length (b .who) ≡ voteLimit
   pub found : (k : ℕ) → k < w .«vote_count» → getD (b .who) k 0 ≡ firstIndex (λ x. eqb x (getD (w .voters) k 0)) (take (w .«member_count») (w .ids))
   pub chained : ByTarget (w .targets) (w .«vote_count») (b .head) (b .next)
   pub all : b .total ≡ sumBelow (w .«member_count») (λ i. true) (λ i. getD (w .bonds) i 0)

@@ -1,29 +1,41 @@
 // The links to one target.
 use crate::voters::Voters;
 use crate::voters::carries;
+use model::MAX_CHECKPOINTS;
+use model::Place;
 ghost use mathlib.Core.Path.{_≡_};
 ghost use mathlib.Core.Bool.{false, _&&_};
 ghost use Prim.Native.Nat.{_*_, _≤_};
 ghost use lib.ListN.{length, getD};
-ghost use Rattle.model.specs.Limits.{bondLimit};
+ghost use Rattle.model.specs.Limits.{memberLimit, checkpointLimit, bondLimit};
 ghost use Rattle.model.specs.Lists.{anyBelow};
 ghost use Rattle.tally.specs.Chains.{nobody};
 ghost use Rattle.tally.specs.Weights.{Bonds, carried};
 
 // Whether a supermajority link from a justified place below t leads to t.
 pub fn reaches<'a>(
-    tally: [Voters; 512],
+    tally: [Voters; MAX_CHECKPOINTS],
     justified: &'a [bool],
-    t: usize,
+    t: Place,
     bonds: &'a [u64],
     members: usize,
     total: u64,
 ) -> bool
-    requires { ⌜ (t ≤ 512) × (t ≤ length (now justified)) × Bonds (now bonds) members × (total ≤ 128 * bondLimit) ⌝ }
-    ensures { λ r. ⌜ r ≡ anyBelow t (λ s. getD (now (justified .entry)) s false && carried (now (bonds .entry)) members total (getD tally s nobody)) ⌝ }
+    requires { ⌜
+        (t .0 ≤ checkpointLimit)
+        × (t .0 ≤ length (now justified))
+        × Bonds (now bonds) members
+        × (total ≤ memberLimit * bondLimit)
+        ⌝ }
+    ensures { λ r. ⌜
+        r
+        ≡ anyBelow (t .0)
+        (λ s. getD (now (justified .entry)) s false && carried (now (bonds .entry)) members total (getD tally s nobody))
+        ⌝ }
 {
+    let end = t.0 as usize;
     let mut s: usize = 0;
-    while s < t {
+    while s < end {
         if justified[s] {
             let v = tally[s];
             if carries(v, bonds, members, total) {

@@ -4,7 +4,7 @@ ghost use mathlib.Core.Bool.{true, _||_};
 ghost use Prim.Native.Nat.{ℕ, _*_, _≤_, _<_};
 ghost use lib.Dec.{eqb};
 ghost use lib.ListN.{getD};
-ghost use Rattle.model.specs.Limits.{bondLimit};
+ghost use Rattle.model.specs.Limits.{memberLimit, bondLimit};
 ghost use Rattle.model.specs.Support.{quorum};
 ghost use Rattle.tally.specs.Bits.{among, sumBelow, countBelow};
 ghost use Rattle.tally.specs.Weights.{Bonds, weightOf, carried};
@@ -17,7 +17,7 @@ pub struct Voters {
 
 // Whether the member at place i is among them.
 pub fn has(v: Voters, i: usize) -> bool
-    requires { ⌜ i < 128 ⌝ }
+    requires { ⌜ i < memberLimit ⌝ }
     ensures { λ r. ⌜ r ≡ among v i ⌝ }
 {
     if i < 64 {
@@ -29,7 +29,7 @@ pub fn has(v: Voters, i: usize) -> bool
 
 // The same with the member at place i.
 pub fn insert(v: Voters, i: usize) -> Voters
-    requires { ⌜ i < 128 ⌝ }
+    requires { ⌜ i < memberLimit ⌝ }
     ensures { λ r. ⌜ ((j : ℕ) → among r j ≡ (among v j || eqb j i)) ⌝ }
 {
     if i < 64 {
@@ -47,7 +47,7 @@ pub fn insert(v: Voters, i: usize) -> Voters
 
 // How many they are.
 pub fn number(v: Voters) -> u32
-    ensures { λ r. ⌜ r ≡ countBelow 128 (among v) ⌝ }
+    ensures { λ r. ⌜ r ≡ countBelow memberLimit (among v) ⌝ }
 {
     u64::count_ones(v.lo) + u64::count_ones(v.hi)
 }
@@ -82,7 +82,7 @@ pub fn total_bond(bonds: &[u64], members: usize) -> u64
 
 // Document 01's supermajority. No sum of 128 bonds is so large that three times it would not fit.
 pub fn is_quorum(part: u64, whole: u64) -> bool
-    requires { ⌜ (part ≤ 128 * bondLimit) × (whole ≤ 128 * bondLimit) ⌝ }
+    requires { ⌜ (part ≤ memberLimit * bondLimit) × (whole ≤ memberLimit * bondLimit) ⌝ }
     ensures { λ r. ⌜ r ≡ quorum part whole ⌝ }
 {
     (0 < whole) & (2 * whole <= 3 * part)
@@ -90,7 +90,7 @@ pub fn is_quorum(part: u64, whole: u64) -> bool
 
 // Whether they are a supermajority of the members whose bonds come to `total`.
 pub fn carries(v: Voters, bonds: &[u64], members: usize, total: u64) -> bool
-    requires { ⌜ Bonds (now bonds) members × (total ≤ 128 * bondLimit) ⌝ }
+    requires { ⌜ Bonds (now bonds) members × (total ≤ memberLimit * bondLimit) ⌝ }
     ensures { λ r. ⌜ r ≡ carried (now (bonds .entry)) members total v ⌝ }
 {
     if v.lo == 0 {

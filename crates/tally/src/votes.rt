@@ -2,6 +2,8 @@
 use crate::voters::Voters;
 use crate::voters::insert;
 use crate::voters::total_bond;
+use model::MAX_CHECKPOINTS;
+use model::MAX_VOTES;
 use model::Place;
 use state::Witness;
 ghost use mathlib.Core.Path.{_≡_};
@@ -9,6 +11,7 @@ ghost use mathlib.Core.Bool.{Bool, _&&_};
 ghost use Prim.Native.Nat.{ℕ, _≤_, _<_};
 ghost use lib.Dec.{eqb};
 ghost use lib.ListN.{length, getD, take};
+ghost use Rattle.model.specs.Limits.{memberLimit, checkpointLimit, voteLimit};
 ghost use Rattle.model.specs.Lists.{firstIndex, anyBelow};
 ghost use Rattle.tables.specs.Places.{placeAt};
 ghost use Rattle.search.specs.Chains.{Chain};
@@ -22,11 +25,16 @@ pub fn member_places<'a>(
     members: usize,
     voters: &'a [u16],
     count: usize,
-) -> [u16; 4096]
-    requires { ⌜ (members ≤ length (now ids)) × (members ≤ 128) × (count ≤ length (now voters)) × (count ≤ 4096) ⌝ }
-    ensures { λ r. ⌜ ((k : ℕ) → k < count → getD r k 0 ≡ firstIndex (λ x. eqb x (getD (now (voters .entry)) k 0)) (take members (now (ids .entry)))) ⌝ }
+) -> [u16; MAX_VOTES]
+    requires { ⌜
+        (members ≤ length (now ids)) × (members ≤ memberLimit) × (count ≤ length (now voters)) × (count ≤ voteLimit)
+        ⌝ }
+    ensures { λ r. ⌜
+        ((k : ℕ) → k < count → getD r k 0 ≡ firstIndex (λ x. eqb x (getD (now (voters .entry)) k 0))
+        (take members (now (ids .entry))))
+        ⌝ }
 {
-    let mut places = [0u16; 4096];
+    let mut places = [0u16; MAX_VOTES];
     let mut k: usize = 0;
     while k < count {
         places[k] = tables::find_id(ids, members, voters[k]) as u16;
@@ -38,17 +46,17 @@ pub fn member_places<'a>(
 // The votes in chains, one for each target. A vote stands in a chain by its number plus 1, and 0 ends the chain:
 // `head` has the last vote for a target, `next` the last vote before a vote that has its target.
 pub struct Buckets {
-    pub head: [u16; 512],
-    pub next: [u16; 4096],
+    pub head: [u16; MAX_CHECKPOINTS],
+    pub next: [u16; MAX_VOTES],
 }
 
 // Puts the votes into chains.
-pub fn bucket(targets: [Place; 4096], count: usize) -> Buckets
-    requires { ⌜ (count ≤ 4096) × ((k : ℕ) → k < count → placeAt targets k < 512) ⌝ }
+pub fn bucket(targets: [Place; MAX_VOTES], count: usize) -> Buckets
+    requires { ⌜ (count ≤ voteLimit) × ((k : ℕ) → k < count → placeAt targets k < checkpointLimit) ⌝ }
     ensures { λ r. ⌜ ByTarget targets count (r .head) (r .next) ⌝ }
 {
-    let mut head = [0u16; 512];
-    let mut next = [0u16; 4096];
+    let mut head = [0u16; MAX_CHECKPOINTS];
+    let mut next = [0u16; MAX_VOTES];
     let mut k: usize = 0;
     while k < count {
         let t = targets[k];
@@ -60,11 +68,12 @@ pub fn bucket(targets: [Place; 4096], count: usize) -> Buckets
     Buckets { head, next }
 }
 
-// The votes of a witness, ready to be counted: the place of each vote's member, the votes in chains, and the total bond.
+// The votes of a witness, ready to be counted: the place of each vote's member, the votes in chains, and the total
+// bond.
 pub struct Ballots {
-    pub who: [u16; 4096],
-    pub head: [u16; 512],
-    pub next: [u16; 4096],
+    pub who: [u16; MAX_VOTES],
+    pub head: [u16; MAX_CHECKPOINTS],
+    pub next: [u16; MAX_VOTES],
     pub total: u64,
 }
 
@@ -92,20 +101,20 @@ pub fn prepare(w: Witness) -> Ballots
 // The voters of each source's link, by the chain of one target's votes.
 pub fn gather<'a>(
     who: &'a [u16],
-    sources: [Place; 4096],
+    sources: [Place; MAX_VOTES],
     next: &'a [u16],
     from: u16,
-) -> [Voters; 512]
+) -> [Voters; MAX_CHECKPOINTS]
     requires { ⌜ Walkable (now who) sources (now next) from ⌝ }
     ensures { λ r. ⌜
         ((on : ℕ → Bool) (count : ℕ)
         → Chain on count (now (next .entry)) from
         → (s i : ℕ)
-        → s < 512
+        → s < checkpointLimit
         → among (getD r s nobody) i ≡ anyBelow count (λ k. on k && casts (now (who .entry)) sources s i k))
         ⌝ }
 {
-    let mut tally = [Voters { lo: 0, hi: 0 }; 512];
+    let mut tally = [Voters { lo: 0, hi: 0 }; MAX_CHECKPOINTS];
     let mut at = from;
     while 0 < at {
         let k = (at - 1) as usize;

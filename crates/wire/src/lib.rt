@@ -1,5 +1,5 @@
-// Big-endian integers of 16, 32 and 64 bits, read from a slice and written into one, and the comparison of two runs of
-// bytes. The three widths share a loop, and so a proof.
+// Big-endian integers of 16, 32 and 64 bits, read from a slice, and of 16 bits written into one, and the comparison of
+// two runs of bytes. The widths share a loop, and so a proof.
 ghost use mathlib.Core.Path.{_≡_};
 ghost use mathlib.Core.List.{_++_};
 ghost use Prim.Native.Nat.{_+_, _≤_, _<_, _^_};
@@ -68,20 +68,6 @@ pub fn put16(buf: &mut [u8], v: u16)
     ensures { λ _. ⌜ now (buf .exit) ≡ beBytes 2 v ++ drop 2 (now (buf .entry)) ⌝ }
 {
     put(buf, v as u64, 2);
-}
-
-pub fn put32(buf: &mut [u8], v: u32)
-    requires { ⌜ 4 ≤ length (now buf) ⌝ }
-    ensures { λ _. ⌜ now (buf .exit) ≡ beBytes 4 v ++ drop 4 (now (buf .entry)) ⌝ }
-{
-    put(buf, v as u64, 4);
-}
-
-pub fn put64(buf: &mut [u8], v: u64)
-    requires { ⌜ 8 ≤ length (now buf) ⌝ }
-    ensures { λ _. ⌜ now (buf .exit) ≡ beBytes 8 v ++ drop 8 (now (buf .entry)) ⌝ }
-{
-    put(buf, v, 8);
 }
 
 // Whether the n bytes of a at i are those of b at j. Every byte is looked at, so that the loop has one way out.

@@ -25,6 +25,7 @@ use Rattle.state.specs.declared.Witness.{Witness}
 use Rattle.state.proofs.Kept.{count-members}
 use Rattle.reader.specs.Many.{readMany, lastTold, IsBatch}
 use Rattle.reader.specs.declared.Batch.{Batch}
+use Rattle.reader.specs.declared.End.the-variants.{EndedBy}
 use Rattle.witness.specs.Calls.{sound?, onSound, decided, passed, manyCall}
 
 -- a state that passes row 40 is well formed
@@ -79,6 +80,6 @@ module _ (n : ℕ) (w : Witness) (log : List ℕ) (at : ℕ) where
   unfolding manyCall
   many-sound e is = rw e is
 
-  pub many-unsound : sound? w ≡ false → (rows : List ℕ) → IsBatch (manyCall n w log at) rows (record { end = Refused UnsoundState; last = Nothing; next = at; records = 0; witness = w }) rows
+  pub many-unsound : sound? w ≡ false → (rows : List ℕ) → IsBatch (manyCall n w log at) rows (record { end = EndedBy (Refused UnsoundState); last = Nothing; next = at; records = 0; witness = w }) rows
   unfolding manyCall lastTold
   many-unsound e rows = rw e (record { end = refl; last = refl; next = refl; records = refl; witness = refl; rows = refl })

@@ -17,7 +17,7 @@ use Rattle.model.specs.WellFormed.{wellFormed?}
 use Rattle.model.specs.declared.Status.{Status}
 use Rattle.state.specs.State.{modelOf}
 use Rattle.state.specs.declared.Witness.{Witness}
-use Rattle.reader.specs.Many.{Many, readMany}
+use Rattle.reader.specs.Many.{endedBy, Many, readMany}
 
 -- row 40's condition on a state
 unfoldable pub sound? : Witness → Bool
@@ -37,7 +37,7 @@ passed w s = cond (sound? w) (recordLength s) 0
 
 -- reading on: 40 where the state is not sound, and nothing is read
 unfoldable pub manyCall : ℕ → Witness → List ℕ → ℕ → Many
-manyCall n w log at = cond (sound? w) (readMany n w log at) (record { passed = []; end = refused 40; next = at; witness = w })
+manyCall n w log at = cond (sound? w) (readMany n w log at) (record { passed = []; end = endedBy (refused 40); next = at; witness = w })
 
 -- the status of a place: 41 where it isn't held
 unfoldable pub statusCall : Witness → ℕ → Answer Status

@@ -6,6 +6,7 @@ use model::Place;
 use model::Refusal;
 use model::Status;
 use reader::Batch;
+use reader::End;
 use state::Beginning;
 use state::Outcome;
 use state::Reading;
@@ -19,7 +20,8 @@ ghost use Rattle.state.specs.Reading.{IsReading, IsBeginning};
 ghost use Rattle.reader.specs.Many.{IsBatch};
 ghost use Rattle.checker.specs.Check.{checkOf};
 ghost use Rattle.evidence.specs.Listed.{listAnswerOf};
-ghost use Rattle.witness.specs.Calls.{decided, passed, manyCall, checkCall, statusCall, supportCall, conflictCall, listCall, listBuffer};
+ghost use Rattle.witness.specs.Calls.{decided, passed, manyCall, checkCall, statusCall, supportCall};
+ghost use Rattle.witness.specs.Calls.{conflictCall, listCall, listBuffer};
 ghost use Rattle.witness.specs.Answers.{statusOf, supportOf, conflictOf};
 
 // What the calls answer: a value, or the refusal.
@@ -38,7 +40,8 @@ pub enum ConflictAnswer {
     Refused(Refusal),
 }
 
-// Reading a header: rows 1 to 3, which leave the state handed in; or the empty witness with that root. Any state is taken.
+// Reading a header: rows 1 to 3, which leave the state handed in; or the empty witness with that root. Any state is
+// taken.
 pub fn begin(w: Witness, log: &[u8]) -> Beginning
     ensures { λ r. ⌜ IsBeginning w (part 5 32 (now (log .entry))) (header (now (log .entry))) r ⌝ }
 {
@@ -48,7 +51,9 @@ pub fn begin(w: Witness, log: &[u8]) -> Beginning
 // Reading the record at an offset of a log: row 40, then 4, 5 and 10 to 36; nothing left at or past the end. A refusal
 // leaves the state as it was.
 pub fn read(w: Witness, log: &[u8], at: usize) -> Reading
-    ensures { λ r. ⌜ IsReading w (decided w (drop at (now (log .entry)))) (at + passed w (drop at (now (log .entry)))) r ⌝ }
+    ensures { λ r. ⌜
+        IsReading w (decided w (drop at (now (log .entry)))) (at + passed w (drop at (now (log .entry)))) r
+        ⌝ }
 {
     if !sound::is_sound(w) {
         return Reading {
@@ -57,25 +62,27 @@ pub fn read(w: Witness, log: &[u8], at: usize) -> Reading
             witness: w,
         };
     }
-    log_reader::read_at(w, log, at)
+    log_reader::read_record(w, log, at)
 }
 
-// Reading the records from an offset on, to the log's end or its stop, or as many as there are rows lent: row 40, once, then
-// each record in turn; the number of the row that refused it goes into its row, 0 where it was taken. What cannot be passed, and
-// row 40, is told in `end`.
+// Reading the records from an offset on, to the log's end or its stop, or as many as there are bytes lent in `rows`: row
+// 40, once, then each record in turn. A record's byte gets the number of the row of the table that refused it, or 0. A
+// record that cannot be passed, and row 40, are told in `end`.
 pub fn read_many(w: Witness, log: &[u8], at: usize, rows: &mut [u8]) -> Batch
-    ensures { λ r. ⌜ IsBatch (manyCall (length (now (rows .entry))) w (now (log .entry)) at) (now (rows .entry)) r (now (rows .exit)) ⌝ }
+    ensures { λ r. ⌜
+        IsBatch (manyCall (length (now (rows .entry))) w (now (log .entry)) at) (now (rows .entry)) r (now (rows .exit))
+        ⌝ }
 {
     if !sound::is_sound(w) {
         return Batch {
-            end: Outcome::Refused(Refusal::UnsoundState),
+            end: End::EndedBy(Outcome::Refused(Refusal::UnsoundState)),
             last: Outcome::Nothing,
             next: at,
             records: 0,
             witness: w,
         };
     }
-    reader::read_many(w, log, at, rows)
+    log_reader::read_from(w, log, at, rows)
 }
 
 // Checking a list of charges: row 40, then 50 to 57 entry by entry; else the sum of the named bonds.
@@ -103,7 +110,8 @@ pub fn status(w: Witness, p: Place) -> StatusAnswer
     StatusAnswer::Is(finality::status(w, p))
 }
 
-// The support of a link between two held places: the members that voted for it, their bonds, and whether it is a quorum.
+// The support of a link between two held places: the members that voted for it, their bonds, and whether it is a
+// quorum.
 pub fn support(w: Witness, s: Place, t: Place) -> SupportAnswer
     ensures { λ r. ⌜ supportOf r ≡ supportCall w (s .0) (t .0) ⌝ }
 {
@@ -134,7 +142,10 @@ pub fn conflict(w: Witness) -> ConflictAnswer
 
 // Our list of charges into a lent buffer: its length; 60 where the buffer is shorter, which is then unwritten.
 pub fn write_list(w: Witness, buf: &mut [u8]) -> ListAnswer
-    ensures { λ r. ⌜ (listAnswerOf r ≡ listCall w (now (buf .entry))) × (now (buf .exit) ≡ listBuffer w (now (buf .entry)) (listCall w (now (buf .entry)))) ⌝ }
+    ensures { λ r. ⌜
+        (listAnswerOf r ≡ listCall w (now (buf .entry)))
+        × (now (buf .exit) ≡ listBuffer w (now (buf .entry)) (listCall w (now (buf .entry))))
+        ⌝ }
 {
     if !sound::is_sound(w) {
         return ListAnswer::Refused(Refusal::UnsoundState);

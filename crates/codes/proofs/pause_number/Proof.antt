@@ -15,6 +15,9 @@ enum-told-2 c = search needs
 enum-told-3 : tie.Need-enum-told-3
 enum-told-3 c = search needs
 
+enum-told-4 : tie.Need-enum-told-4
+enum-told-4 c = search needs
+
 enum-known-p : tie.Need-enum-known-p
 enum-known-p c = search needs
 
@@ -37,7 +40,10 @@ returns-3 : tie.Need-returns-3
 returns-3 c = search needs
 
 returns-4 : tie.Need-returns-4
-returns-4 c = paused-as _ _ _ (c .before .before .p .given .1) (ap (λ n. 256 + n) (c .refusal-number .ensures))
+returns-4 c = search needs
+
+returns-5 : tie.Need-returns-5
+returns-5 c = paused-as _ _ _ (c .before .before .p .given .1) (ap (λ n. 256 + n) (c .refusal-number .ensures))
 
 pub pause-number-spec : {M : Type 1} → statement M
 pause-number-spec =
@@ -46,6 +52,7 @@ pause-number-spec =
     enum-told
     enum-told-2
     enum-told-3
+    enum-told-4
     enum-known-p
     refusal-number-requires
     cast-result
@@ -53,4 +60,5 @@ pause-number-spec =
     returns
     returns-2
     returns-3
-    returns-4)
+    returns-4
+    returns-5)

@@ -13,11 +13,11 @@ support-requires c κs = search needs
 enum-known-b : tie.Need-enum-known-b
 enum-known-b c = search needs
 
-cast-t10 : tie.Need-cast-t10
-cast-t10 c = search needs
+cast-number : tie.Need-cast-number
+cast-number c = search needs
 
-cast-t11 : tie.Need-cast-t11
-cast-t11 c = search needs
+cast-quorum : tie.Need-cast-quorum
+cast-quorum c = search needs
 
 enum-known-r : tie.Need-enum-known-r
 enum-known-r c = search needs
@@ -39,8 +39,8 @@ ffw-support-spec =
     (tie.spec
     support-requires
     enum-known-b
-    cast-t10
-    cast-t11
+    cast-number
+    cast-quorum
     enum-known-r
     number-requires
     returns

@@ -1,21 +1,16 @@
 -- `finality::conflict` meets its contract: the greatest final place decides. Assumes nothing.
-use Prim.Native.Nat.{_≤_}
+use Prim.Native.Nat.{_+_}
 use native.Mathlib.Omega.{arith}
+use mathlib.Core.Path.{_≡_, sym, ap, _∙_}
 use borrow.Author.Needs.{needs}
+use Rattle.search.specs.Chains.{lastBelow}
 use Rattle.search.proofs.Chains.{last-le}
 use Rattle.standing.specs.Answers.{isFinal}
+use Rattle.finality.specs.Answers.{lastOf}
 use Rattle.finality.proofs.Answered.{falling, none-conflict, some-conflict}
 use Rattle.tally.proofs.Backed.{few-places}
 use Rattle.finality.proofs.conflict.Statement.{statement}
 use Rattle.finality.proofs.conflict.Tie as tie
-
--- the greatest final place is a held one
-low : (c : tie.Else1) → (c .before .last-final .result ≤ c .before .before .before .before .args .w .«checkpoint_count») × (c .before .before .before .before .args .w .«checkpoint_count» ≤ 512)
-low c =
-    let start = c .before .before .before .before in (
-      omega (arith, c .before .last-final .ensures, last-le (isFinal (c .before .before .statuses .result)) (start .args .w .«checkpoint_count»)),
-      few-places (start .args .w) (start .pre .typed) (start .pre .good),
-    )
 
 statuses-requires : tie.Need-statuses-requires
 statuses-requires c κs = search needs
@@ -25,28 +20,37 @@ last-final-requires c κs =
     let start = c .before .before in
     few-places (start .args .w) (start .pre .typed) (start .pre .good)
 
-returns : tie.Need-returns
-returns c =
-    let start = c .before .before .before .before in
-    none-conflict (start .args .w) (start .pre) (c .before .before .statuses .result) (c .before .before .statuses .ensures) (c .before .last-final .result) (c .before .last-final .ensures) (c .if1 .taken)
+enum-told : tie.Need-enum-told
+enum-told c = search needs
 
-sub-t7 : tie.Need-sub-t7
-sub-t7 c = search needs
+enum-known-f : tie.Need-enum-known-f
+enum-known-f c = search needs
 
-cast-t8 : tie.Need-cast-t8
-cast-t8 c = omega (arith, low c)
+-- the greatest final place is a held one
+last-is : (c : tie.After-f) → c .f .given .0 .0 .0 + 1 ≡ lastBelow (c .before .before .before .before .before .args .w .«checkpoint_count») (isFinal (c .before .before .before .statuses .result))
+last-is c = sym (ap lastOf (c .f .given .1)) ∙ c .before .before .last-final .ensures
 
 strays-requires : tie.Need-strays-requires
 strays-requires c κs =
-    let start = c .before .before .before .before in
-    let bound = low c in
-    (few-places (start .args .w) (start .pre .typed) (start .pre .good), omega arith, falling (start .args .w) (start .pre))
+    let s = c .before .before .before .before in
+    let start = s .before .before in
+    let w = start .args .w in
+    let low = last-le (isFinal (s .statuses .result)) (w .«checkpoint_count») in
+    (few-places w (start .pre .typed) (start .pre .good), omega (arith, last-is (c .before), low), falling w (start .pre))
+
+returns : tie.Need-returns
+returns c =
+    let l = c .before .before in
+    let s = l .before in
+    let start = s .before .before in
+    none-conflict (start .args .w) (start .pre) (s .statuses .result) (s .statuses .ensures) (sym (ap lastOf (c .enum-told .given .1)) ∙ l .last-final .ensures)
 
 returns-2 : tie.Need-returns-2
 returns-2 c =
-    let b = c .before in
-    let start = b .before .before .before .before in
-    some-conflict (start .args .w) (start .pre) (b .before .before .statuses .result) (b .before .before .statuses .ensures) (b .before .last-final .result) (b .before .last-final .ensures) (b .if1 .left) (c .strays .ensures)
+    let f = c .before .before in
+    let s = f .before .before .before in
+    let start = s .before .before in
+    some-conflict (start .args .w) (start .pre) (s .statuses .result) (s .statuses .ensures) (f .f .given .0 .0 .0) (last-is f) (c .strays .ensures)
 
 pub conflict-spec : {M : Type 1} → statement M
 conflict-spec =
@@ -54,8 +58,8 @@ conflict-spec =
     (tie.spec
     statuses-requires
     last-final-requires
-    returns
-    sub-t7
-    cast-t8
+    enum-told
+    enum-known-f
     strays-requires
+    returns
     returns-2)

@@ -35,11 +35,11 @@ below : (c : tie.After-batch Inv-loop μ-loop) → let l = c .before .before in 
 below c = let l = c .before .before in ltb-true _ _ (and-right (ltb (l .loop .at) (length (l .before .before .args .log .now))) _ (c .before .loop-test .taken))
 
 -- the call, after what was read before it
-call : (c : tie.After-read-many Inv-loop μ-loop)
+call : (c : tie.After-read-from Inv-loop μ-loop)
     → let l = c .before .before .before .before in
     let a = l .before .before .args in
     let n = c .before .before .batch .result in
-    Call (rest (answer nothingLeft) 0 (a .w) (a .limit) (a .log .now) (a .from)) (a .limit) (a .log .now) (outcomeOf (l .loop .last)) (l .loop .records) (l .loop .held) (l .loop .at) n (take n (l .loop .rows)) (c .read-many .result) (c .read-many .last .1 .1 .1 .0)
+    Call (rest (answer nothingLeft) 0 (a .w) (a .limit) (a .log .now) (a .from)) (a .limit) (a .log .now) (outcomeOf (l .loop .last)) (l .loop .records) (l .loop .held) (l .loop .at) n (take n (l .loop .rows)) (c .read-from .result) (c .read-from .last .1 .1 .1 .0)
 call c =
     let b = c .before .before in
     let l = b .before .before in
@@ -48,7 +48,7 @@ call c =
       so = l .loop .inv .0;
       bytes = λ i h. l .before .shared-slice-known .given i .fits;
       few = omega (arith, b .batch .ensures .0, below b);
-      is = subst (λ (j : ℕ). IsBatch (readMany j (l .loop .held) (l .before .before .args .log .now) (l .loop .at)) (take n (l .loop .rows)) (c .read-many .result) (c .read-many .last .1 .1 .1 .0)) (length-take-le n (l .loop .rows) (omega (arith, b .batch .ensures .1, l .loop .inv .1))) (c .read-many .ensures);
+      is = subst (λ (j : ℕ). IsBatch (readMany j (l .loop .held) (l .before .before .args .log .now) (l .loop .at)) (take n (l .loop .rows)) (c .read-from .result) (c .read-from .last .1 .1 .1 .0)) (length-take-le n (l .loop .rows) (omega (arith, b .batch .ensures .1, l .loop .inv .1))) (c .read-from .ensures);
     }
 
 loop-holds : tie.Need-loop-holds Inv-loop μ-loop
@@ -65,29 +65,34 @@ batch-requires c κs = search needs
 array-borrow-prefix-rows : tie.Need-array-borrow-prefix-rows Inv-loop μ-loop
 array-borrow-prefix-rows c = search needs
 
-slice-aggregate-read-many : tie.Need-slice-aggregate-read-many Inv-loop μ-loop
-slice-aggregate-read-many c = sym (length-take-le _ _ (omega (arith, c .before .batch .ensures .1, c .before .before .before .loop .inv .1)))
+slice-aggregate-read-from : tie.Need-slice-aggregate-read-from Inv-loop μ-loop
+slice-aggregate-read-from c = sym (length-take-le _ _ (omega (arith, c .before .batch .ensures .1, c .before .before .before .loop .inv .1)))
 
-read-many-requires : tie.Need-read-many-requires Inv-loop μ-loop
-read-many-requires c κs = let sound = c .before .before .before .loop .inv .0 .sound in (sound .typed, sound .good)
+read-from-requires : tie.Need-read-from-requires Inv-loop μ-loop
+read-from-requires c κs = let sound = c .before .before .before .loop .inv .0 .sound in (sound .typed, sound .good)
 
 add-records : tie.Need-add-records Inv-loop μ-loop
 add-records c = let r = c .before .before in omega (arith, few-read (call r), call r .few, r .before .before .before .before .before .before .fits .limit)
 
 -- it ended before its rows did
-short : (c : tie.Then1 Inv-loop μ-loop) → let r = c .before .before .before .before in r .read-many .result .records < r .before .before .batch .result
+short : (c : tie.Then1 Inv-loop μ-loop) → let r = c .before .before .before .before in r .read-from .result .records < r .before .before .batch .result
 short c = ltb-true _ _ (and-left _ _ (c .if1 .taken))
 
-add-t20 : tie.Need-add-t20 Inv-loop μ-loop
-add-t20 c = let r = c .before .before .before .before in omega (arith, short c, call r .few, r .before .before .before .before .before .before .fits .limit)
+add-stopped : tie.Need-add-stopped Inv-loop μ-loop
+add-stopped c = let r = c .before .before .before .before in omega (arith, short c, call r .few, r .before .before .before .before .before .before .fits .limit)
+
+ended-by-requires : tie.Need-ended-by-requires Inv-loop μ-loop
+ended-by-requires c κs = search needs
 
 returns : tie.Need-returns Inv-loop μ-loop
 returns c =
-    let r = c .before .before .before .before in
-    stopped (call r) (short c) (ltb-true _ _ (and-right (ltb (r .read-many .result .records) (r .before .before .batch .result)) _ (c .if1 .taken)))
+    let t = c .before in
+    let r = t .before .before .before .before in
+    stopped (call r) (c .ended-by .result) (outcomeOf (r .read-from .result .last)) (c .ended-by .ensures) (short t)
+    (ltb-true _ _ (and-right (ltb (r .read-from .result .records) (r .before .before .batch .result)) _ (t .if1 .taken)))
 
 -- a batch that did not end the reading passed some
-moved : (c : tie.Else1 Inv-loop μ-loop) → 0 < c .before .before .before .before .read-many .result .records
+moved : (c : tie.Else1 Inv-loop μ-loop) → 0 < c .before .before .before .before .read-from .result .records
 moved c =
     let r = c .before .before .before .before in
     let b = r .before .before in
@@ -105,7 +110,7 @@ loop-again c =
     let n = r .before .before .batch .result in
     let fits : n ≤ length (l .loop .rows) = omega (arith, r .before .before .batch .ensures .1, l .loop .inv .1) in (
       some-passed (call r) (moved c),
-      length-append (r .read-many .last .1 .1 .1 .0) (drop n (l .loop .rows))
+      length-append (r .read-from .last .1 .1 .1 .0) (drop n (l .loop .rows))
           ∙ omega (arith, rows-kept n (l .loop .held) (l .before .before .args .log .now) (l .loop .at) (length-take-le n (l .loop .rows) fits) (call r .is), length-drop n (l .loop .rows), fits, l .loop .inv .1),
     )
 
@@ -128,10 +133,11 @@ read-rest-spec =
     sub-batch
     batch-requires
     array-borrow-prefix-rows
-    slice-aggregate-read-many
-    read-many-requires
+    slice-aggregate-read-from
+    read-from-requires
     add-records
-    add-t20
+    add-stopped
+    ended-by-requires
     returns
     loop-less
     loop-again

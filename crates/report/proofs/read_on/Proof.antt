@@ -6,9 +6,12 @@ use mathlib.Core.Path.{_≡_, refl, sym, ap, _∙_}
 use mathlib.Core.List.{List}
 use lib.ListN.{length, take, drop, length-append, take-append-drop}
 use lib.Seq.{length-take-le}
+use borrow.Author.Needs.{needs}
+use Rattle.model.specs.Answer.{answer}
+use Rattle.model.specs.Run.{nothingLeft}
 use Rattle.text.proofs.Putting.{kept}
 use Rattle.report.specs.Feed.{feedFrom, lastNumber}
-use Rattle.report.proofs.Onward.{Sofar, none-yet, end-inside, room-and-number, full-here, May, few-records, rows-long, batch-here, room-left, halted-last}
+use Rattle.report.proofs.Onward.{Sofar, none-yet, end-inside, room-and-number, spent-here, May, few-records, rows-long, batch-here, room-left, halted-last}
 use Rattle.report.proofs.read_on.Statement.{statement}
 use Rattle.report.proofs.read_on.Tie as tie
 
@@ -63,14 +66,14 @@ may c =
       numbers = omega (arith, lent-long c, c .before .batch .ensures .3);
     }
 
-slice-aggregate-read-many : tie.Need-slice-aggregate-read-many Inv-loop μ-loop
-slice-aggregate-read-many c = sym (lent-long c)
+slice-aggregate-read-from : tie.Need-slice-aggregate-read-from Inv-loop μ-loop
+slice-aggregate-read-from c = sym (lent-long c)
 
-read-many-requires : tie.Need-read-many-requires Inv-loop μ-loop
-read-many-requires c κs = let sound = test c .before .loop .inv .1 .sound in (sound .typed, sound .good)
+read-from-requires : tie.Need-read-from-requires Inv-loop μ-loop
+read-from-requires c κs = let sound = test c .before .loop .inv .1 .sound in (sound .typed, sound .good)
 
-few : (c : tie.After-read-many Inv-loop μ-loop) → c .read-many .result .records ≤ c .before .before .batch .result
-few c = omega (arith, few-records (test (c .before) .before .loop .inv .1) (may (c .before)) (c .read-many .ensures), lent-long (c .before))
+few : (c : tie.After-read-from Inv-loop μ-loop) → c .read-from .result .records ≤ c .before .before .batch .result
+few c = omega (arith, few-records (test (c .before) .before .loop .inv .1) (may (c .before)) (c .read-from .ensures), lent-long (c .before))
 
 -- the rows that were not lent
 abbrev others : tie.After-rows Inv-loop μ-loop → List ℕ
@@ -83,7 +86,7 @@ array-share-prefix-rows : tie.Need-array-share-prefix-rows Inv-loop μ-loop
 array-share-prefix-rows c =
     let r = c .before .before .before in
     let q = r .before in
-    omega (arith, few r, lent-long q, rows-long (test q .before .loop .inv .1) (may q) (r .read-many .ensures) (others q) refl)
+    omega (arith, few r, lent-long q, rows-long (test q .before .loop .inv .1) (may q) (r .read-from .ensures) (others q) refl)
 
 slice-aggregate-refused-lines : tie.Need-slice-aggregate-refused-lines Inv-loop μ-loop
 slice-aggregate-refused-lines c = sym (length-take-le _ _ (array-share-prefix-rows (c .before)))
@@ -102,24 +105,29 @@ add-k c =
     let q = r .before in
     omega (arith, few r, lent-long q, may q .numbers, test q .before .loop .inv .1 .numbered)
 
+ended-by-requires : tie.Need-ended-by-requires Inv-loop μ-loop
+ended-by-requires c κs = search needs
+
 halt-requires : tie.Need-halt-requires Inv-loop μ-loop
 halt-requires c κs =
-    let then = c .before in
+    let then = c .before .before in
     let l = then .before .before .before in
     let r = l .before .before .before .before .before in
     let q = r .before in
     let so = test q .before .loop .inv .1 in
-    let room = room-left so (may q) (r .read-many .ensures) (others q) (l .refused-lines .ensures .0) (omega (arith, then .if1 .taken, lent-long q)) in
-    omega (arith, room, end-inside (batch-here so (may q) (r .read-many .ensures) (others q) (l .refused-lines .ensures .0)))
+    let room = room-left so (may q) (r .read-from .ensures) (others q) (l .refused-lines .ensures .0) (omega (arith, then .if1 .taken, lent-long q)) in
+    omega (arith, room, end-inside (batch-here so (may q) (r .read-from .ensures) (others q) (l .refused-lines .ensures .0)))
 
 returns : tie.Need-returns Inv-loop μ-loop
 returns c =
     let h = c .before .before in
-    let then = h .before .before in
+    let e = h .before .before in
+    let then = e .before in
     let l = then .before .before .before in
     let r = l .before .before .before .before .before in
     let q = r .before in
-    halted-last (test q .before .loop .inv .1) (may q) (r .read-many .ensures) (others q) (l .refused-lines .ensures .0) (omega (arith, then .if1 .taken, lent-long q)) (h .halt .ensures)
+    halted-last (test q .before .loop .inv .1) (may q) (r .read-from .ensures) (others q) (l .refused-lines .ensures .0) (omega (arith, then .if1 .taken, lent-long q))
+    (e .ended-by .result) (answer nothingLeft) (e .ended-by .ensures) (h .halt .ensures)
 
 same-length : tie.Need-same-length Inv-loop μ-loop
 same-length c = kept (returns c .text)
@@ -136,13 +144,19 @@ loop-again c =
     let r = l .before .before .before .before .before in
     let q = r .before in
     let so = test q .before .loop .inv .1 in
-    (rows-long so (may q) (r .read-many .ensures) (others q) refl ∙ others-long q, batch-here so (may q) (r .read-many .ensures) (others q) (l .refused-lines .ensures .0))
+    (rows-long so (may q) (r .read-from .ensures) (others q) refl ∙ others-long q, batch-here so (may q) (r .read-from .ensures) (others q) (l .refused-lines .ensures .0))
+
+sub-why-spent : tie.Need-sub-why-spent Inv-loop μ-loop
+sub-why-spent c = end-inside (c .before .loop .inv .1)
+
+why-spent-requires : tie.Need-why-spent-requires Inv-loop μ-loop
+why-spent-requires c κs = search needs
 
 same-length-2 : tie.Need-same-length-2 Inv-loop μ-loop
-same-length-2 c = kept (c .before .loop .inv .1 .put)
+same-length-2 c = kept (c .before .before .loop .inv .1 .put)
 
 returns-2 : tie.Need-returns-2 Inv-loop μ-loop
-returns-2 c = full-here (c .before .loop .inv .1) (c .loop-test .left)
+returns-2 c = spent-here (c .before .before .loop .inv .1) (c .why-spent .result) (c .why-spent .ensures) (c .before .loop-test .left)
 
 pub read-on-spec : {M : Type 1} → statement M
 read-on-spec =
@@ -156,16 +170,19 @@ read-on-spec =
     sub-batch-2
     batch-requires
     array-borrow-prefix-rows
-    slice-aggregate-read-many
-    read-many-requires
+    slice-aggregate-read-from
+    read-from-requires
     array-share-prefix-rows
     slice-aggregate-refused-lines
     refused-lines-requires
     add-k
+    ended-by-requires
     halt-requires
     same-length
     returns
     loop-less
     loop-again
+    sub-why-spent
+    why-spent-requires
     same-length-2
     returns-2)

@@ -55,6 +55,9 @@ gather-requires c κs = ready-walk (c .before .before .before .before .before .b
 slice-aggregate-reaches : tie.Need-slice-aggregate-reaches Inv-loop μ-loop
 slice-aggregate-reaches c = search needs
 
+cast-to : tie.Need-cast-to Inv-loop μ-loop
+cast-to c = omega (arith, below (c .before .before .before))
+
 reaches-requires : tie.Need-reaches-requires Inv-loop μ-loop
 reaches-requires c κs =
     let r = c .before .before .before .before .before .before .before .before .before .before .before .before .prepare .ensures in
@@ -141,6 +144,7 @@ statuses-spec =
     mul-gather
     array-read-gather
     gather-requires
+    cast-to
     slice-aggregate-reaches
     reaches-requires
     array-write-justified-2

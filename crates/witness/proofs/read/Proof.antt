@@ -13,13 +13,13 @@ returns c =
     let a = c .before .before .before .args in
     unsound-reading (a .w) (drop (a .at) (a .log .now)) (a .at) (meets-40 (a .w) (c .before .is-sound .ensures) (c .if1 .taken))
 
-read-at-requires : tie.Need-read-at-requires
-read-at-requires c κs = good-state (c .before .before .before .args .w) (c .before .is-sound .ensures) (c .if1 .left)
+read-record-requires : tie.Need-read-record-requires
+read-record-requires c κs = good-state (c .before .before .before .args .w) (c .before .is-sound .ensures) (c .if1 .left)
 
 returns-2 : tie.Need-returns-2
 returns-2 c =
     let a = c .before .before .before .before .args in
-    sound-reading (a .w) (drop (a .at) (a .log .now)) (a .at) (passes-40 (a .w) (c .before .before .is-sound .ensures) (c .before .if1 .left)) (c .read-at .ensures)
+    sound-reading (a .w) (drop (a .at) (a .log .now)) (a .at) (passes-40 (a .w) (c .before .before .is-sound .ensures) (c .before .if1 .left)) (c .read-record .ensures)
 
 pub read-spec : {M : Type 1} → statement M
-read-spec = tie.close (tie.spec is-sound-requires returns read-at-requires returns-2)
+read-spec = tie.close (tie.spec is-sound-requires returns read-record-requires returns-2)

@@ -12,8 +12,8 @@ returns c =
     let a = c .before .before .before .before .args in
     many-unsound _ (a .w) (a .log .now) (a .at) (meets-40 (a .w) (c .before .is-sound .ensures) (c .if1 .taken)) (a .rows .now)
 
-read-many-requires : tie.Need-read-many-requires
-read-many-requires c κs = let e = c .before in good-state (e .before .before .before .before .args .w) (e .before .is-sound .ensures) (e .if1 .left)
+read-from-requires : tie.Need-read-from-requires
+read-from-requires c κs = let e = c .before in good-state (e .before .before .before .before .args .w) (e .before .is-sound .ensures) (e .if1 .left)
 
 same-length : tie.Need-same-length
 same-length c = search needs
@@ -23,8 +23,8 @@ returns-2 c =
     let r = c .before .before in
     let e = r .before .before in
     let a = e .before .before .before .before .args in
-    many-sound _ (a .w) (a .log .now) (a .at) (passes-40 (a .w) (e .before .is-sound .ensures) (e .if1 .left)) (r .read-many .ensures)
+    many-sound _ (a .w) (a .log .now) (a .at) (passes-40 (a .w) (e .before .is-sound .ensures) (e .if1 .left)) (r .read-from .ensures)
 
 pub read-many-spec : {M : Type 1} → statement M
 read-many-spec =
-    tie.close (tie.spec is-sound-requires returns read-many-requires same-length returns-2)
+    tie.close (tie.spec is-sound-requires returns read-from-requires same-length returns-2)

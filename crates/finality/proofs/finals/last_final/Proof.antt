@@ -1,19 +1,20 @@
--- `finality::finals::last_final` meets its contract. The loop's invariant: `last` is the last final place passed, plus 1.
+-- `finality::finals::last_final` meets its contract. The loop's invariant: `last` is the last final place passed.
 -- Assumes nothing.
 use Prim.Native.Nat.{_≤_, _-_}
 use native.Mathlib.Omega.{arith}
 use native.Mathlib.Nat.{le-antisymm}
-use mathlib.Core.Path.{_≡_, sym, _∙_}
+use mathlib.Core.Path.{_≡_, sym, ap, _∙_}
 use mathlib.Core.Logic.{⊎-elim}
 use mathlib.Core.Bool.{true, false}
 use Rattle.search.specs.Chains.{lastBelow}
 use Rattle.search.proofs.Chains.{last-next, last-none}
 use Rattle.standing.specs.Answers.{isFinal}
+use Rattle.finality.specs.Answers.{lastOf}
 use Rattle.finality.proofs.finals.last_final.Statement.{statement}
 use Rattle.finality.proofs.finals.last_final.Tie as tie
 
 abbrev Inv-loop : tie.InvT-loop
-Inv-loop places a last₀ p₀ last p = (p ≤ places) × (last ≡ lastBelow p (isFinal a))
+Inv-loop places a last₀ p₀ last p = (p ≤ places) × (lastOf last ≡ lastBelow p (isFinal a))
 
 abbrev μ-loop : tie.MeasureT-loop
 μ-loop places a last₀ p₀ last p = places - p
@@ -27,8 +28,8 @@ element-copy-out-fin c = omega arith
 element-copy-out-fin-2 : tie.Need-element-copy-out-fin-2 Inv-loop μ-loop
 element-copy-out-fin-2 c = omega arith
 
-add-last : tie.Need-add-last Inv-loop μ-loop
-add-last c = omega arith
+cast-here : tie.Need-cast-here Inv-loop μ-loop
+cast-here c = omega arith
 
 add-p : tie.Need-add-p Inv-loop μ-loop
 add-p c = omega arith
@@ -42,8 +43,8 @@ loop-again c =
     let a = c .before .before .before .before .before .args .t1 in (
       omega arith,
       ⊎-elim
-          (λ w. w .1 ∙ sym (last-next (isFinal a) true (at .p) (w .0 .taken)))
-          (λ w. w .1 ∙ at .inv .1 ∙ sym (last-next (isFinal a) false (at .p) (w .0 .left)))
+          (λ w. ap lastOf (w .1) ∙ sym (last-next (isFinal a) true (at .p) (w .0 .taken)))
+          (λ w. ap lastOf (w .1) ∙ at .inv .1 ∙ sym (last-next (isFinal a) false (at .p) (w .0 .left)))
           (c .if1 .came),
     )
 
@@ -59,7 +60,7 @@ last-final-spec =
     loop-holds
     element-copy-out-fin
     element-copy-out-fin-2
-    add-last
+    cast-here
     add-p
     loop-less
     loop-again

@@ -21,10 +21,13 @@ abbrev leads : List Bool → List ℕ → ℕ → ℕ → List Voters → ℕ �
 leads justified bonds members total tally k = getD justified k false && carried bonds members total (getD tally k nobody)
 
 abbrev Inv-loop : tie.InvT-loop
-Inv-loop justified t bonds members total tally s₀ s = (s ≤ t) × (false ≡ anyBelow s (leads justified bonds members total tally))
+Inv-loop justified bonds members total tally end s₀ s = (s ≤ end) × (false ≡ anyBelow s (leads justified bonds members total tally))
 
 abbrev μ-loop : tie.MeasureT-loop
-μ-loop justified t bonds members total tally s₀ s = t - s
+μ-loop justified bonds members total tally end s₀ s = end - s
+
+cast-end : tie.Need-cast-end Inv-loop μ-loop
+cast-end c = omega arith
 
 loop-holds : tie.Need-loop-holds Inv-loop μ-loop
 loop-holds c = (omega arith, any-none false _)
@@ -40,15 +43,15 @@ array-copy-out-v c = omega arith
 
 carries-requires : tie.Need-carries-requires Inv-loop μ-loop
 carries-requires c κs =
-    let pre = c .before .before .before .before .before .before .before .pre in
+    let pre = c .before .before .before .before .before .before .before .before .pre in
     (pre .2, pre .3)
 
 returns : tie.Need-returns Inv-loop μ-loop
 returns c =
     let b = c .before .before .before .before .before in
-    let a = b .before .before .before .before .args in
+    let a = b .before .before .before .before .before .args in
     sym
-    (found-below (a .t) (leads (a .justified .now) (a .bonds .now) (a .members) (a .total) (a .t1)) (b .before .loop .s) (b .loop-test .taken)
+    (found-below (a .t .0) (leads (a .justified .now) (a .bonds .now) (a .members) (a .total) (a .t1)) (b .before .loop .s) (b .loop-test .taken)
     (both (c .before .before .before .if1 .taken) (sym (c .before .carries .ensures) ∙ c .if2 .taken)))
 
 add-s : tie.Need-add-s Inv-loop μ-loop
@@ -59,10 +62,10 @@ loop-less c = omega arith
 
 -- a source passed does not lead on: it is not justified, or its link is not carried
 fails : (c : tie.Joined1 Inv-loop μ-loop)
-    → (let a = c .before .before .before .before .before .before .args in leads (a .justified .now) (a .bonds .now) (a .members) (a .total) (a .t1) (c .before .before .before .loop .s)) ≡ false
+    → (let a = c .before .before .before .before .before .before .before .args in leads (a .justified .now) (a .bonds .now) (a .members) (a .total) (a .t1) (c .before .before .before .loop .s)) ≡ false
 fails c =
     let b = c .before .before .before in
-    let a = b .before .before .before .args in
+    let a = b .before .before .before .before .args in
     ⊎-elim {C = leads (a .justified .now) (a .bonds .now) (a .members) (a .total) (a .t1) (b .loop .s) ≡ false}
     (λ w. ap₂ _&&_ (w .0 .taken) (sym (w .2 .ensures) ∙ w .3 .left))
     (λ w. ap (λ (x : Bool). x && carried (a .bonds .now) (a .members) (a .total) (getD (a .t1) (b .loop .s) nobody)) (w .left))
@@ -80,6 +83,7 @@ reaches-spec =
     (tie.spec
     Inv-loop
     μ-loop
+    cast-end
     loop-holds
     shared-slice-read-if1
     mul-v
