@@ -17,7 +17,7 @@ unfoldable pub ready? : (begun atEnd : Bool) → List ℕ → Bool
 ready? begun atEnd bytes = atEnd || cond begun (whole? bytes) (leb 37 (length bytes))
 
 -- After a read there are as many bytes at hand as before, or more; those that were there stand as they were.
-pub record IsFilled (have : ℕ) (before : List ℕ) (now : ℕ) (after : List ℕ) : Type 0 where
-  pub more : have ≤ now
-  pub inside : now ≤ length after
+pub record IsFilled (have : ℕ) (before : List ℕ) (have′ : ℕ) (after : List ℕ) : Type 0 where
+  pub more : have ≤ have′
+  pub inside : have′ ≤ length after
   pub kept : take have after ≡ take have before

@@ -3,6 +3,7 @@
 use libc::STDERR_FILENO;
 use libc::STDOUT_FILENO;
 ghost use mathlib.Core.Path.{_≡_};
+ghost use mathlib.Core.Bool.{true};
 ghost use Prim.Native.Nat.{_-_, _<_, _≤_};
 ghost use lib.ListN.{length, take, drop};
 ghost use Rattle.model.specs.Log.{recordSize};
@@ -25,6 +26,7 @@ fn is_interrupted(got: isize) -> bool {
 pub fn fill(fd: i32, name: &[u8], input: &mut [u8], have: usize) -> Filled
     requires { ⌜ have < length (now input) ⌝ }
     ensures { λ r. ⌜ IsFilled have (now (input .entry)) (r .have) (now (input .exit)) ⌝ }
+    ensures { λ r. ⌜ (r .ended ≡ true → r .have ≡ have) ⌝ }
 {
     let got = libc::read(fd, &mut input[have..]);
     let failed = (got < 0) & !is_interrupted(got);
@@ -34,7 +36,7 @@ pub fn fill(fd: i32, name: &[u8], input: &mut [u8], have: usize) -> Filled
     let bytes = io::count(got, &input[have..]);
     Filled {
         have: have + bytes,
-        ended: got == 0,
+        ended: (bytes == 0) & (got == 0),
         failed,
     }
 }

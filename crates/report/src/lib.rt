@@ -288,8 +288,8 @@ fn put_end(w: Witness, records: u64, left: usize, buf: &mut [u8]) -> Fed
     }
 }
 
-// The end of the log, where `left` of its bytes were not passed by a `feed` that wanted more: a record that stays cut, or
-// the summary.
+// The end of the log, where `left` of its bytes were not passed by a `feed` that wanted more: a record that stays cut,
+// or the summary.
 pub fn close(w: Witness, records: u64, left: usize, buf: &mut [u8]) -> Fed
     ensures { λ r. ⌜
         IsFed (endCall (length (now (buf .entry))) w records left) 0 0 (now (buf .entry)) r (now (buf .exit))

@@ -1,2 +1,3 @@
 mod Turning
 pub mod Waiting
+pub mod Report

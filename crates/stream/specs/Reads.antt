@@ -1,16 +1,20 @@
 -- A log read from a file, turn after turn.
-use Prim.Native.Nat.{ℕ}
+use Prim.Native.Nat.{ℕ, _≤_}
 use mathlib.Core.Path.{_≡_}
 use mathlib.Core.List.{List, [], _++_}
-use mathlib.Core.Bool.{Bool, false, cond}
+use mathlib.Core.Bool.{false, cond}
 use lib.ListN.{take, drop}
+use Rattle.model.specs.Bytes.{AreBytes}
+use Rattle.model.specs.Report.{report}
+use Rattle.report.specs.Feed.{lineRoom, endCall}
+use Rattle.report.specs.Pieces.{inWant?}
 use Rattle.buffered.specs.Hold.{ready?}
 use Rattle.stream.specs.Turns.{atHand, callAt, Stepped}
-use Rattle.stream.specs.declared.Fate.the-variants.{Open}
+use Rattle.stream.specs.declared.Fate.the-variants.{Open, Whole, Ended}
 use Rattle.stream.specs.declared.Log.{Log}
 use Rattle.stream.specs.declared.Turn.{Turn}
 
--- nothing was read yet
+-- nothing was read yet; the record number and the witness are set by the first call
 pub record Starts (t : Turn) : Type 0 where
   pub fate : t .fate ≡ Open
   pub begun : t .begun ≡ false
@@ -47,3 +51,11 @@ pub record IsRead (room : ℕ) (r : Log) : Type 0 where
   pub input : List ℕ
   pub reads : Reads room turn input
   pub leaves : Leaves turn r
+
+-- The texts of the calls, in turn, are the report of the bytes that have come, where the report has ended; where all of the log
+-- was read, they are that with the log's end, if the end finds room. That they are written out is tried, not proved.
+abbrev pub WritesReport : Type 0
+WritesReport =
+    (room : ℕ) (log text : List ℕ) (t : Turn) (input : List ℕ) → lineRoom ≤ room → AreBytes log → Reached room log text t input
+    → (t .fate ≡ Ended → text ≡ report log)
+    × ((last : ℕ) → t .fate ≡ Whole → inWant? (endCall last (t .witness) (t .records) (t .have) .paused) ≡ false → text ++ endCall last (t .witness) (t .records) (t .have) .text ≡ report log)

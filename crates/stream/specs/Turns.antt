@@ -30,6 +30,7 @@ fateOf last (refusedBy n) = Failed
 -- The last line of the first n bytes begins at r: after a newline, or at the start; and it has no newline but at its end.
 pub record BeginsLast (output : List ℕ) (n r : ℕ) : Type 0 where
   pub inside : r ≤ n
+  pub some : 0 < n → r < n
   pub after-newline : 0 < r → getD output (r - 1) 0 ≡ 10
   pub one : (k : ℕ) → r ≤ k → k + 1 < n → getD output k 0 ≡ 10 → ⊥
 
@@ -61,16 +62,18 @@ module _ (t : Turn) (input : List ℕ) where
     pub fate : r .fate ≡ fateAt (length output)
     pub text : Put output 0 (callAt (length output) .text) told (r .written)
 
-  -- A read leaves all but the bytes at hand, of which there may be more.
+  -- A read changes the bytes at hand alone, of which there may be more; where it says that the file has ended, it brought none.
+  -- Which bytes a file has, and when it ends, no contract can say.
   pub record Refilled (r : Turn) (after : List ℕ) : Type 0 where
     pub fate : (r .fate ≡ Open) ⊎ (r .fate ≡ Failed)
     pub begun : r .begun ≡ t .begun
     pub records : r .records ≡ t .records
     pub witness : r .witness ≡ t .witness
+    pub at-end : r .«at_end» ≡ true → r .have ≡ t .have
     pub filled : IsFilled (t .have) input (r .have) after
 
   -- One turn is a call where the bytes at hand are worth one, else a read. It fails where the file cannot be read, or what the
-  -- call wrote cannot be written out.
+  -- call wrote cannot be written out; when that is, no contract can say.
   pub record Stepped (room : ℕ) (r : Turn) (after : List ℕ) : Type 0 where
     pub inside : r .have ≤ length after
     pub called : ready? (t .begun) (t .«at_end») atHand ≡ true → Called (callAt room) r after × ((r .fate ≡ fateAt room) ⊎ (r .fate ≡ Failed))
@@ -83,7 +86,8 @@ toldAs t fate = record { fate = fate; begun = t .begun; «at_end» = t .«at_end
 abbrev pub Told : Turn → Turn → Type 0
 Told t r = (r ≡ toldAs t (t .fate)) ⊎ (r ≡ toldAs t Failed)
 
--- No call is missed: on bytes that are not worth one it would want more, and would have done nothing.
+-- No call is missed: on bytes that are not worth one, a call with a sound witness, room for a line and a number left would want
+-- more, and would have done nothing.
 abbrev pub CallWaits : Type 0
 CallWaits =
     (begun : Bool) (room : ℕ) (w : Witness) (k : ℕ) (s : List ℕ) → sound? w ≡ true → lineRoom ≤ room → k < lastNumber → ready? begun false s ≡ false

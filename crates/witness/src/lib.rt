@@ -65,9 +65,9 @@ pub fn read(w: Witness, log: &[u8], at: usize) -> Reading
     log_reader::read_record(w, log, at)
 }
 
-// Reading the records from an offset on, to the log's end or its stop, or as many as there are bytes lent in `rows`: row
-// 40, once, then each record in turn. A record's byte gets the number of the row of the table that refused it, or 0. A
-// record that cannot be passed, and row 40, are told in `end`.
+// Reading the records from an offset on, to the log's end or its stop, or as many as there are bytes lent in `rows`:
+// row 40, once, then each record in turn. A record's byte gets the number of the row of the table that refused it, or
+// 0. A record that cannot be passed, and row 40, are told in `end`.
 pub fn read_many(w: Witness, log: &[u8], at: usize, rows: &mut [u8]) -> Batch
     ensures { λ r. ⌜
         IsBatch (manyCall (length (now (rows .entry))) w (now (log .entry)) at) (now (rows .entry)) r (now (rows .exit))

@@ -4,6 +4,8 @@ use native.Mathlib.Omega.{arith}
 use mathlib.Core.Path.{_≡_, refl, ap, _∙_}
 use mathlib.Core.List.{List, _++_}
 use borrow.Author.Needs.{needs}
+use borrow.Author.Tests.{eqb-true}
+use Rattle.model.proofs.Lists.{and-left}
 use lib.ListN.{length, take}
 use lib.Seq.{length-take-le, take-at}
 use Rattle.buffered.specs.Hold.{IsFilled}
@@ -54,7 +56,7 @@ same-length c = search needs
 returns : tie.Need-returns
 returns c =
     let start = c .before .before .before .before .before .before .before .before .before .before .before in
-    filled (start .args .have) (c .count .result) (start .args .input .now) _ _ refl (omega (arith, start .pre)) (omega (arith, c .count .ensures .0 .0))
+    (filled (start .args .have) (c .count .result) (start .args .input .now) _ _ refl (omega (arith, start .pre)) (omega (arith, c .count .ensures .0 .0)), λ e. omega (arith, eqb-true (c .count .result) 0 (and-left _ _ e)))
 
 pub fill-spec : {M : Type 1} → statement M
 fill-spec =

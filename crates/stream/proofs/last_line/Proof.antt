@@ -30,7 +30,7 @@ shared-slice-read-if1 c = search needs
 returns : tie.Need-returns Inv-loop μ-loop
 returns c =
     let l = c .before .before .before .loop in
-    record { inside = omega arith; after-newline = λ h. c .if1 .taken; one = λ k h m e. l .inv .1 k (omega (arith, c .before .before .loop-test .taken)) m e }
+    record { inside = omega arith; some = λ h. omega (arith, c .before .before .loop-test .taken, l .inv .0); after-newline = λ h. c .if1 .taken; one = λ k h m e. l .inv .1 k (omega (arith, c .before .before .loop-test .taken)) m e }
 
 loop-less : tie.Need-loop-less Inv-loop μ-loop
 loop-less c = search needs
@@ -42,7 +42,7 @@ loop-again c =
     (omega arith, λ k h m e. ⊎-elim (λ lower. c .if1 .left (subst (λ (j : ℕ). getD (a .output .now) j 0 ≡ 10) (omega (arith, c .before .before .loop-test .taken)) e)) (λ above. l .inv .1 k above m e) (lt-or-ge (k + 1) (l .i)))
 
 returns-2 : tie.Need-returns-2 Inv-loop μ-loop
-returns-2 c = record { inside = omega arith; after-newline = λ h. absurd (omega arith); one = λ k h m e. c .before .loop .inv .1 k (omega (arith, c .loop-test .left)) m e }
+returns-2 c = record { inside = omega arith; some = λ h. h; after-newline = λ h. absurd (omega arith); one = λ k h m e. c .before .loop .inv .1 k (omega (arith, c .loop-test .left)) m e }
 
 pub last-line-spec : {M : Type 1} → statement M
 last-line-spec =

@@ -21,7 +21,7 @@ same-length c = search needs
 returns : tie.Need-returns
 returns c =
     let f = c .before .before .before .before in
-    record { fate = failed-or-not (f .fill .result .failed) Open (c .unless-failed .result) (c .unless-failed .ensures); begun = refl; records = refl; witness = refl; filled = f .fill .ensures }
+    record { fate = failed-or-not (f .fill .result .failed) Open (c .unless-failed .result) (c .unless-failed .ensures); begun = refl; records = refl; witness = refl; at-end = f .fill .ensures .1; filled = f .fill .ensures .0 }
 
 pub refill-spec : {M : Type 1} → statement M
 refill-spec =
