@@ -5,9 +5,9 @@ use mathlib.Core.Path.{_≡_, sym, ap}
 use mathlib.Core.List.{List, [], _∷_}
 use mathlib.Core.Bool.{Bool, true, false, cond, _||_, true≢false}
 use borrow.Author.Tests.{leb-true, leb-false}
-use lib.Dec.{eqb, leb}
+use lib.Dec.{leb}
 use lib.ListN.{length, getD}
-use Rattle.model.specs.Log.{recordSize}
+use Rattle.model.specs.Log.{Kind, memberKind, checkpointKind, voteKind, otherKind, kindOf, sizeOf, recordSize}
 use Rattle.buffered.specs.Hold.{whole?, ready?}
 
 -- a record that is whole has its bytes
@@ -26,14 +26,14 @@ module _ (s : List ℕ) where
   not-at-end begun atEnd b e f = rw (e, f)
 
 size-bound : (kind : ℕ) → recordSize kind ≤ 75
-unfolding recordSize
-size-bound kind = go (eqb kind 1) (eqb kind 2) (eqb kind 3)
+unfolding recordSize sizeOf
+size-bound kind = go (kindOf kind)
   where
-    go : (one two three : Bool) → cond one 11 (cond two 65 (cond three 75 0)) ≤ 75
-    go true two three = omega arith
-    go false true three = omega arith
-    go false false true = omega arith
-    go false false false = omega arith
+    go : (k : Kind) → sizeOf k ≤ 75
+    go memberKind = omega arith
+    go checkpointKind = omega arith
+    go voteKind = omega arith
+    go otherKind = omega arith
 
 not-whole : (s : List ℕ) → whole? s ≡ false → length s < 75
 unfolding whole?

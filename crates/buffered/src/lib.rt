@@ -6,7 +6,6 @@ ghost use mathlib.Core.Path.{_≡_};
 ghost use mathlib.Core.Bool.{true};
 ghost use Prim.Native.Nat.{_-_, _<_, _≤_};
 ghost use lib.ListN.{length, take, drop};
-ghost use Rattle.model.specs.Log.{recordSize};
 ghost use Rattle.buffered.specs.Hold.{whole?, ready?, IsFilled};
 
 // How many bytes are at hand after a read, whether the file has ended, and whether it could not be read.
@@ -55,18 +54,6 @@ pub fn keep(input: &mut [u8], from: usize, have: usize) -> usize
     i
 }
 
-// A record's bytes in all, by its kind byte; 0 for a kind that is unknown.
-pub fn record_size(kind: u8) -> usize
-    ensures { λ r. ⌜ r ≡ recordSize kind ⌝ }
-{
-    match kind {
-        1 => 11,
-        2 => 65,
-        3 => 75,
-        0 | 4..=255 => 0,
-    }
-}
-
 // Whether the bytes begin with a whole record, or with a kind that is unknown: then no more need come to go on.
 pub fn is_whole(bytes: &[u8]) -> bool
     ensures { λ r. ⌜ r ≡ whole? (now (bytes .entry)) ⌝ }
@@ -74,7 +61,7 @@ pub fn is_whole(bytes: &[u8]) -> bool
     if bytes.len() == 0 {
         return false;
     }
-    record_size(bytes[0]) <= bytes.len()
+    wire::records::record_size(bytes[0]) <= bytes.len()
 }
 
 // Whether the bytes at hand are worth a call: a header, a whole record, a kind that is unknown, or all that is left

@@ -10,9 +10,8 @@ ghost use mathlib.Core.Path.{_≡_};
 ghost use Prim.Native.Nat.{_+_, _*_};
 ghost use lib.ListN.{length, drop};
 ghost use Rattle.model.specs.Checker.{entries, checkFrom, check};
-ghost use Rattle.model.specs.Limits.{rootHeight};
-ghost use Rattle.model.specs.WellFormed.{WellFormed};
-ghost use Rattle.state.specs.State.{Typed, modelOf};
+ghost use Rattle.state.specs.Sound.{Sound};
+ghost use Rattle.state.specs.State.{modelOf};
 ghost use Rattle.checker.specs.Check.{checkOf};
 
 // What the checker gives: the sum of the bonds named, or the row that refuses the list.
@@ -23,7 +22,7 @@ pub enum CheckAnswer {
 
 // Rows 53 to 57, entry by entry, and the sum of the bonds.
 fn check_entries(w: Witness, list: &[u8], count: usize) -> CheckAnswer
-    requires { ⌜ Typed w × WellFormed rootHeight (modelOf w) × (length (now list) ≡ 7 + 6 * count) ⌝ }
+    requires { ⌜ Sound w × (length (now list) ≡ 7 + 6 * count) ⌝ }
     ensures { λ r. ⌜ checkOf r ≡ checkFrom (modelOf w) 0 0 (entries count (drop 7 (now (list .entry)))) ⌝ }
 {
     let members = w.member_count;
@@ -60,7 +59,7 @@ fn check_entries(w: Witness, list: &[u8], count: usize) -> CheckAnswer
 
 // Whether a list of any bytes is right against a sound state: the sum of the bonds that it names, or the refusal.
 pub fn check_list(w: Witness, list: &[u8]) -> CheckAnswer
-    requires { ⌜ Typed w × WellFormed rootHeight (modelOf w) ⌝ }
+    requires { ⌜ Sound w ⌝ }
     ensures { λ r. ⌜ checkOf r ≡ check (modelOf w) (now (list .entry)) ⌝ }
 {
     match header_of(list) {

@@ -4,12 +4,11 @@ use mathlib.Core.Path.{_≡_}
 use mathlib.Core.List.{List}
 use mathlib.Core.Bool.{Bool, cond}
 use Rattle.model.specs.Answer.{Answer, refused, answer}
-use Rattle.model.specs.Model.{Change}
-use Rattle.model.specs.Run.{Told, nothingLeft, taken, told}
+use Rattle.model.specs.Change.{Told, nothingLeft, taken, Decision}
 use Rattle.model.specs.Support.{Support}
 use Rattle.model.specs.declared.Status.{Status}
 use Rattle.model.specs.declared.Status.the-variants.{Plain, Justified, Final}
-use Rattle.state.specs.State.{store}
+use Rattle.state.specs.State.{stored}
 use Rattle.state.specs.declared.Witness.{Witness}
 use Rattle.text.specs.Put.{Put}
 use Rattle.guarantee.specs.LogRead.{Reads}
@@ -81,12 +80,12 @@ pub record IsReplayed (h : Answer (List ℕ)) (rs : Reads) (r : Replay) : Type 0
   pub records : r .records ≡ rs .records
   pub witness : r .witness ≡ rs .witness
 
--- `a` is what is decided on the record, and `after` the offset to go on from
-pub record IsRead (w : Witness) (a : Answer Change) (after : ℕ) (r : Read) : Type 0 where
-  pub refused : r .refused ≡ refusalOf (told a)
-  pub taken : r .taken ≡ valueOf toldNumber (told a)
+-- `d` is what is decided on the record, and `after` the offset to go on from
+pub record IsRead (w : Witness) (d : Decision) (after : ℕ) (r : Read) : Type 0 where
+  pub refused : r .refused ≡ refusalOf (d .told)
+  pub taken : r .taken ≡ valueOf toldNumber (d .told)
   pub next : r .next ≡ after
-  pub witness : r .witness ≡ store w a
+  pub witness : r .witness ≡ stored w d
 
 -- `f` is what a call for the report comes to, from the offset `at` on: the text stands at the buffer's start, and every other
 -- byte is as it was

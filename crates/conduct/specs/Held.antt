@@ -6,15 +6,15 @@ use mathlib.Core.Bool.{false}
 use lib.ListN.{length, getD, drop}
 use Rattle.model.specs.Evidence.{byId}
 use Rattle.model.specs.Lists.{All}
-use Rattle.model.specs.Model.{Member, Checkpoint, Vote, memberAt, voteAt, heightOf, sameVote}
+use Rattle.model.specs.Model.{Model, Member, memberAt, voteAt, heightOf, sameVote}
 
 -- of each vote its member and the heights of its two places; no vote is held twice
-pub record VotesHeld (cs : List Checkpoint) (vs : List Vote) (voters lows highs : List ℕ) (n : ℕ) : Type 0 where
-  pub count : length vs ≡ n
-  pub voter : (i : ℕ) → i < n → voteAt vs i .voter ≡ getD voters i 0
-  pub low : (i : ℕ) → i < n → heightOf cs (voteAt vs i .source) ≡ getD lows i 0
-  pub high : (i : ℕ) → i < n → heightOf cs (voteAt vs i .target) ≡ getD highs i 0
-  pub distinct : (i j : ℕ) → i < j → j < n → sameVote (voteAt vs i) (voteAt vs j) ≡ false
+pub record VotesHeld (m : Model) (voters lows highs : List ℕ) (n : ℕ) : Type 0 where
+  pub count : length (m .votes) ≡ n
+  pub voter : (i : ℕ) → i < n → voteAt (m .votes) i .voter ≡ getD voters i 0
+  pub low : (i : ℕ) → i < n → heightOf (m .checkpoints) (voteAt (m .votes) i .source) ≡ getD lows i 0
+  pub high : (i : ℕ) → i < n → heightOf (m .checkpoints) (voteAt (m .votes) i .target) ≡ getD highs i 0
+  pub distinct : (i j : ℕ) → i < j → j < n → sameVote (voteAt (m .votes) i) (voteAt (m .votes) j) ≡ false
 
 -- the members' ids
 pub record IdsHeld (ms : List Member) (ids : List ℕ) (n : ℕ) : Type 0 where

@@ -6,7 +6,7 @@ use lib.ListN.{getD}
 use lib.Dec.{eqb}
 use Rattle.model.specs.Evidence.{Conduct, clear, broken}
 use Rattle.model.specs.Lists.{any, firstIndex}
-use Rattle.slashing.specs.Heights.{heightsBreak}
+use Rattle.model.specs.Slashing.{heightsBreak}
 
 -- the votes with these numbers
 abbrev pub breakAt : List ℕ → List ℕ → ℕ → ℕ → Bool

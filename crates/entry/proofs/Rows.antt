@@ -10,10 +10,9 @@ use lib.Dec.{eqb, ltb}
 use Rattle.model.specs.Answer.{row}
 use Rattle.model.specs.Bytes.{field, part, ascii}
 use Rattle.model.specs.Checker.{entries, ownVote?, checkFrom, check}
-use Rattle.model.specs.Decide.{idHeld}
 use Rattle.model.specs.Evidence.{Charge, bondOf}
 use Rattle.model.specs.Lists.{sameBytes}
-use Rattle.model.specs.Model.{Model, voteAt, memberIndex}
+use Rattle.model.specs.Model.{Model, voteAt, memberIndex, idHeld}
 use Rattle.model.specs.Slashing.{breaks?}
 use Rattle.model.proofs.Lists.{or-left, or-right, and-left, and-right}
 use Rattle.entry.specs.Entry.{VotersHeld, entryAt, PairFound}
@@ -85,7 +84,8 @@ module _ (m : Model) (floor at : ℕ) (l : List ℕ) {id a b : ℕ} (eid : id �
       → (sum : ℕ) (cs : List Charge)
       → checkFrom m floor sum (entryAt at l ∷ cs)
       ≡ row 53 b53 (row 54 (not b54) (row 55 (not b55) (row 56 (not b56)
-      (row 57 (not (breaks? (m .checkpoints) (voteAt (m .votes) a) (voteAt (m .votes) b))) (checkFrom m (suc id) (sum + bondOf (m .members) id) cs)))))
+      (row 57 (not (breaks? m (voteAt (m .votes) a) (voteAt (m .votes) b)))
+      (checkFrom m (suc id) (sum + bondOf (m .members) id) cs)))))
   unfolding checkFrom
   entry-rows e53 e54 e55 e56 sum cs = rw (← eid, ← ea, ← eb, e53, e54, e55, e56)
 

@@ -45,7 +45,8 @@ pub record PairFound (m : Model) (floor : ℕ) (c : Charge) (member id earlier l
   pub last-voter : voteAt (m .votes) later .voter ≡ id
   pub rest : (sum : ℕ) (cs : List Charge)
       → checkFrom m floor sum (c ∷ cs)
-      ≡ row 57 (not (breaks? (m .checkpoints) (voteAt (m .votes) earlier) (voteAt (m .votes) later))) (checkFrom m (suc id) (sum + bondOf (m .members) id) cs)
+      ≡ row 57 (not (breaks? m (voteAt (m .votes) earlier) (voteAt (m .votes) later)))
+      (checkFrom m (suc id) (sum + bondOf (m .members) id) cs)
 
 abbrev pub FoundIs : Model → ℕ → Charge → Found → Type 0
 FoundIs m floor c (Pair member id earlier later) = PairFound m floor c member id earlier later

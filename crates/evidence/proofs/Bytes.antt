@@ -7,11 +7,13 @@ use mathlib.Core.List.{List, [], _∷_, _++_, append-assoc, append-nil, flatMap}
 use borrow.Author.Tests.{lt-ltb, le-ltb}
 use lib.ListN.{length, take, drop, set, length-append, length-drop, take-append-drop, drop-of-length-le}
 use lib.Seq.{length-take-le, take-all, take-at, drop-at, drop-drop}
-use Rattle.model.specs.Bytes.{beBytes, ascii}
 use Rattle.model.specs.Answer.{answer, row}
+use Rattle.model.specs.Buffer.{writeText, bufferAfter}
+use Rattle.model.specs.Bytes.{beBytes, ascii}
 use Rattle.model.specs.Evidence.{Charge, entryBytes, listBytes}
 use Rattle.model.specs.declared.Refusal.the-variants.{BufferTooShort}
 use Rattle.model.specs.Lists.{tabulate}
+use Rattle.model.proofs.Checker.{length-encoded}
 use Rattle.model.proofs.Lists.{length-tabulate}
 use Rattle.evidence.specs.declared.Charges.{Charges}
 use Rattle.evidence.specs.declared.ListAnswer.the-variants.{Length, Refused}
@@ -48,15 +50,6 @@ pub flat-snoc : {A B : Type 0} (f : A → List B) (xs : List A) (x : A) → flat
 unfolding flatMap
 flat-snoc f xs x = rw (flat-append f xs (x ∷ []), append-nil)
 
-length-entry : (c : Charge) → length (entryBytes c) ≡ 6
-unfolding entryBytes beBytes
-length-entry c = refl
-
-pub length-entries : (cs : List Charge) → length (flatMap entryBytes cs) ≡ 6 * length cs
-unfolding flatMap
-length-entries [] = refl
-length-entries (c ∷ cs) = length-append (entryBytes c) (flatMap entryBytes cs) ∙ omega (arith, length-entry c, length-entries cs)
-
 -- the first i entries are written
 abbrev pub Entered : (ℕ → Charge) → ℕ → List ℕ → List ℕ → Type 0
 Entered f i l₀ l = l ≡ take 7 l₀ ++ flatMap entryBytes (tabulate i f) ++ drop (7 + 6 * i) l₀
@@ -73,7 +66,9 @@ entered-more f i l₀ fits before after =
     ∙ ap₂ (λ (p : List ℕ) (n : ℕ). p ++ drop n l₀) entries further
   where
     long : length (take 7 l₀ ++ flatMap entryBytes (tabulate i f)) ≡ 7 + 6 * i
-    long = length-append (take 7 l₀) (flatMap entryBytes (tabulate i f)) ∙ omega (arith, length-take-le 7 l₀ fits, length-entries (tabulate i f), length-tabulate i f)
+    long =
+        length-append (take 7 l₀) (flatMap entryBytes (tabulate i f))
+        ∙ omega (arith, length-take-le 7 l₀ fits, length-encoded (tabulate i f), length-tabulate i f)
 
     entries : take 7 l₀ ++ flatMap entryBytes (tabulate i f) ++ entryBytes (f i) ≡ take 7 l₀ ++ flatMap entryBytes (tabulate (i + 1) f)
     entries = rw (add-one, append-assoc, flat-snoc entryBytes (tabulate i f) (f i))
@@ -90,7 +85,9 @@ length-head n = refl
 module _ (cs : List Charge) (n : ℕ) (count : length cs ≡ n) where
   pub length-list : length (listBytes cs) ≡ 7 + 6 * n
   unfolding listBytes
-  length-list = length-append (head (length cs)) (flatMap entryBytes cs) ∙ omega (arith, length-head (length cs), length-entries cs)
+  length-list =
+      length-append (head (length cs)) (flatMap entryBytes cs)
+      ∙ omega (arith, length-head (length cs), length-encoded cs)
 
   -- the header, then the entries
   pub list-done : (l : List ℕ) {m after : List ℕ} → m ≡ head n ++ drop 7 l → after ≡ take 7 m ++ flatMap entryBytes cs ++ drop (7 + 6 * n) m → after ≡ listBytes cs ++ drop (7 + 6 * n) l
@@ -104,11 +101,15 @@ count-charges c = length-tabulate (c .count) (chargeIn c)
 
 module _ (list before : List ℕ) where
   pub too-short : length before < length list → Written list before (Refused BufferTooShort) before
-  unfolding row
+  unfolding row writeText bufferAfter
   too-short h = record { answered = rw (lt-ltb _ _ h); buffer = rw (lt-ltb _ _ h) }
 
-  pub all-written : {n : ℕ} {after : List ℕ} → n ≡ length list → n ≤ length before → after ≡ list ++ drop n before → Written list before (Length n) after
-  unfolding row
+  pub all-written : {n : ℕ} {after : List ℕ} → n ≡ length list → n ≤ length before → after ≡ list ++ drop n before
+      → Written list before (Length n) after
+  unfolding row writeText bufferAfter
   all-written {n} e h whole =
       let fits : length list ≤ length before = omega arith in
-      record { answered = rw (le-ltb _ _ fits) (ap answer e); buffer = rw (le-ltb _ _ fits) (whole ∙ ap (λ (k : ℕ). list ++ drop k before) e) }
+      record {
+        answered = rw (le-ltb _ _ fits) (ap answer e);
+        buffer = rw (le-ltb _ _ fits) (whole ∙ ap (λ (k : ℕ). list ++ drop k before) e);
+      }

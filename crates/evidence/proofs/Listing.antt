@@ -11,7 +11,7 @@ use Rattle.model.specs.Evidence as Model
 use Rattle.model.specs.Evidence.{Charge, chargeOf}
 use Rattle.model.specs.Lists.{tabulate, All, none, each}
 use Rattle.model.specs.Model.{Member, memberAt}
-use Rattle.model.proofs.Lists.{tabulate-same}
+use Rattle.model.proofs.Lists.{tabulate-same, all-map}
 use Rattle.state.specs.declared.Witness.{Witness}
 use Rattle.state.specs.State.{modelOf}
 use Rattle.conduct.specs.declared.Conduct.{Conduct}
@@ -21,7 +21,6 @@ use Rattle.conduct.specs.Shown.{conductAt, Shown}
 use Rattle.conduct.proofs.Members.{ids-held}
 use Rattle.evidence.specs.Listed.{chargeIn, chargesOf, chargesAt}
 use Rattle.evidence.proofs.Bytes.{flat-snoc}
-use Rattle.conduct.proofs.Sorting.{all-wider}
 
 -- ---- one more charge
 
@@ -87,7 +86,7 @@ listed-charges w shown places o found listed =
     let m = modelOf w in
     let charge : ℕ → List Charge = λ id. chargeOf id (Model.conduct m id) in
     let same : All (λ p. charge (memberAt (m .members) p .id) ≡ chargeOf (getD (w .ids) p 0) (conductAt shown p)) places =
-    all-wider (λ p h. ap charge (ids-held w .id p h) ∙ ap (chargeOf (getD (w .ids) p 0)) (sym (found p h))) (o .held) in
+    all-map (λ p h. ap charge (ids-held w .id p h) ∙ ap (chargeOf (getD (w .ids) p 0)) (sym (found p h))) (o .held) in
     listed
     ∙ sym (flat-same (λ x. charge (x .id)) (λ p. chargeOf (getD (w .ids) p 0) (conductAt shown p)) (memberAt (m .members)) same)
     ∙ ap (flatMap (λ x. charge (x .id))) (o .rising (m .members) (ids-held w))

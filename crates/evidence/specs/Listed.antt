@@ -1,11 +1,10 @@
 -- What the crate's types mean in the model: the charges, and what a list call answers and leaves.
 use Prim.Native.Nat.{ℕ}
 use mathlib.Core.Path.{_≡_}
-use mathlib.Core.List.{List, _++_, flatMap}
-use mathlib.Core.Bool.{cond}
-use lib.Dec.{ltb}
-use lib.ListN.{length, getD, drop}
-use Rattle.model.specs.Answer.{Answer, refused, answer, row}
+use mathlib.Core.List.{List, flatMap}
+use lib.ListN.{getD}
+use Rattle.model.specs.Answer.{Answer, refused, answer}
+use Rattle.model.specs.Buffer.{writeText, bufferAfter}
 use Rattle.model.specs.Evidence as Model
 use Rattle.model.specs.Evidence.{Charge}
 use Rattle.model.specs.Lists.{tabulate}
@@ -32,8 +31,7 @@ abbrev pub listAnswerOf : ListAnswer → Answer ℕ
 listAnswerOf (Length n) = answer n
 listAnswerOf (Refused r) = refused (refusalNumber r)
 
--- A list written into a lent buffer. Row 60, "buffer shorter than our list", "leaves the buffer unwritten"; else the
--- answer is the list's length, and the buffer is the list and, past it, what it was.
+-- a list written into a lent buffer, or refused by row 60: the answer, and the buffer afterwards
 pub record Written (list before : List ℕ) (r : ListAnswer) (after : List ℕ) : Type 0 where
-  pub answered : listAnswerOf r ≡ row 60 (ltb (length before) (length list)) (answer (length list))
-  pub buffer : after ≡ cond (ltb (length before) (length list)) before (list ++ drop (length list) before)
+  pub answered : listAnswerOf r ≡ writeText list before
+  pub buffer : after ≡ bufferAfter list before (writeText list before)

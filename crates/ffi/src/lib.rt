@@ -16,10 +16,14 @@ use witness::SupportAnswer;
 ghost use mathlib.Core.Path.{_≡_};
 ghost use Prim.Native.Nat.{_+_};
 ghost use lib.ListN.{length, drop};
+ghost use Rattle.model.specs.Evidence.{ourList};
 ghost use Rattle.model.specs.Log.{header};
+ghost use Rattle.model.specs.Run.{reading};
 ghost use Rattle.state.specs.Reading.{beginWith};
-ghost use Rattle.witness.specs.Calls.{sound?, decided, passed, checkCall, statusCall, supportCall, conflictCall};
-ghost use Rattle.witness.specs.Calls.{listCall, listBuffer};
+ghost use Rattle.state.specs.Sound.{sound?};
+ghost use Rattle.witness.specs.Calls.{eventCall, checkCall, statusCall, supportCall, conflictCall};
+ghost use Rattle.witness.specs.Readings.{passed};
+ghost use Rattle.witness.specs.Calls.{writeCall, writeBuffer};
 ghost use Rattle.guarantee.specs.LogRead.{replayed};
 ghost use Rattle.report.specs.Feed.{openCall, feedCall, endCall};
 ghost use Rattle.codes.specs.Numbers.{statusNumber, yesNumber, IsAnswered, IsBacked, IsBegun, IsRead, IsReplayed};
@@ -67,7 +71,7 @@ pub extern "C" fn ffw_replay(w: Witness, log: &[u8], limit: u64) -> Replay
 #[no_mangle]
 pub extern "C" fn ffw_read(w: Witness, log: &[u8], at: usize) -> Read
     ensures { λ r. ⌜
-        IsRead w (decided w (drop at (now (log .entry)))) (at + passed w (drop at (now (log .entry)))) r
+        (let s = drop at (now (log .entry)) in IsRead w (eventCall w (reading s)) (at + passed w s) r)
         ⌝ }
 {
     let reading = witness::read(w, log, at);
@@ -154,8 +158,8 @@ pub extern "C" fn ffw_conflict(w: Witness) -> Answered
 #[no_mangle]
 pub extern "C" fn ffw_list(w: Witness, buf: &mut [u8]) -> Answered
     ensures { λ r. ⌜
-        IsAnswered (λ n. n) (listCall w (now (buf .entry))) r
-        × (now (buf .exit) ≡ listBuffer w (now (buf .entry)) (listCall w (now (buf .entry))))
+        IsAnswered (λ n. n) (writeCall ourList w (now (buf .entry))) r
+        × (now (buf .exit) ≡ writeBuffer ourList w (now (buf .entry)))
         ⌝ }
 {
     match witness::write_list(w, buf) {

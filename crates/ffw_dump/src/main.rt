@@ -123,7 +123,7 @@ fn put_one(r: Lines, bytes: &[u8], out: &mut [u8]) -> Lines
 {
     let kind = bytes[0];
     let end = put_line(r.records, kind, bytes, out, r.written);
-    let size = buffered::record_size(kind);
+    let size = wire::records::record_size(kind);
     Lines {
         next: r.next + size,
         records: std::num::wrapping_add_u64(r.records, 1),

@@ -1,13 +1,33 @@
 -- The answers, in the model's terms.
 use Prim.Native.Nat.{ℕ, _+_}
+use mathlib.Core.Path.{_≡_}
+use mathlib.Core.List.{List}
+use mathlib.Core.Bool.{Bool, _&&_, not}
+use Rattle.model.specs.Limits.{memberLimit}
+use Rattle.model.specs.Model.{Checkpoint}
 use Rattle.model.specs.Support.{Support}
+use Rattle.model.specs.Tree.{ancestor?}
+use Rattle.tally.specs.declared.voters.Voters.{Voters}
+use Rattle.tally.specs.declared.voters.Quota.{Quota}
+use Rattle.tally.specs.Bits.{among, countBelow}
+use Rattle.tally.specs.Weights.{weightOf, enough}
 use Rattle.finality.specs.declared.Backing.{Backing}
 use Rattle.finality.specs.declared.finals.LastFinal.{LastFinal}
 use Rattle.finality.specs.declared.finals.LastFinal.the-variants.{Nowhere, At}
 
+-- the backing that the voters give, by the bonds of the members
+pub record IsBacking (bonds : List ℕ) (members : ℕ) (quota : Quota) (v : Voters) (b : Backing) : Type 0 where
+  pub number : b .number ≡ countBelow memberLimit (among v)
+  pub weight : b .bonds ≡ weightOf bonds members v
+  pub yes? : b .quorum ≡ enough (b .bonds) quota
+
 -- "their number, the sum of their bonds, and yes or no"
 abbrev pub backingOf : Backing → Support
 backingOf b = record { number = b .number; bonds = b .bonds; yes? = b .quorum }
+
+-- p is a final place, by the test `fin`, and no ancestor of f
+abbrev pub stray : (ℕ → Bool) → List Checkpoint → ℕ → ℕ → Bool
+stray fin cs f p = fin p && not (ancestor? cs p f)
 
 -- the greatest final place plus 1; 0 where none is final
 abbrev pub lastOf : LastFinal → ℕ

@@ -3,15 +3,13 @@ use model::MAX_CHECKPOINTS;
 use model::Place;
 use standing::Analysis;
 ghost use mathlib.Core.Path.{_≡_};
-ghost use mathlib.Core.Bool.{_&&_, not};
 ghost use Prim.Native.Nat.{_≤_, _<_};
 ghost use Rattle.model.specs.Limits.{checkpointLimit};
 ghost use Rattle.model.specs.Lists.{anyBelow};
-ghost use Rattle.model.specs.Tree.{ancestor?};
 ghost use Rattle.tables.specs.Places.{treeOf, Falling};
 ghost use Rattle.search.specs.Chains.{lastBelow};
 ghost use Rattle.standing.specs.Answers.{isFinal};
-ghost use Rattle.finality.specs.Answers.{lastOf};
+ghost use Rattle.finality.specs.Answers.{stray, lastOf};
 
 // The greatest final place, where there is one.
 pub enum LastFinal {
@@ -39,7 +37,7 @@ pub fn last_final(a: Analysis, places: usize) -> LastFinal
 // Whether some final place below f is no ancestor of f.
 pub fn strays(a: Analysis, parents: [Place; MAX_CHECKPOINTS], places: usize, f: Place) -> bool
     requires { ⌜ (places ≤ checkpointLimit) × (f .0 < places) × Falling places parents ⌝ }
-    ensures { λ r. ⌜ r ≡ anyBelow (f .0) (λ p. isFinal a p && not (ancestor? (treeOf places parents) p (f .0))) ⌝ }
+    ensures { λ r. ⌜ r ≡ anyBelow (f .0) (stray (isFinal a) (treeOf places parents) (f .0)) ⌝ }
 {
     let mut p: u16 = 0;
     while p < f.0 {

@@ -10,14 +10,17 @@ use standing::status_of;
 use standing::statuses;
 use state::Witness;
 use tally::voters;
+use tally::voters::Quota;
+use tally::voters::Voters;
 use tally::votes;
 ghost use mathlib.Core.Path.{_≡_};
 ghost use Prim.Native.Nat.{_<_};
 ghost use Rattle.model.specs.Finality.{status, conflicting?};
 ghost use Rattle.model.specs.Support.{support};
+ghost use Rattle.state.specs.Sound.{Sound};
 ghost use Rattle.state.specs.State.{modelOf};
-ghost use Rattle.finality.specs.Answers.{backingOf};
-ghost use Rattle.tally.specs.Ready.{Sound};
+ghost use Rattle.tally.specs.Weights.{Bonds, Fits};
+ghost use Rattle.finality.specs.Answers.{IsBacking, backingOf};
 
 // The backing of a link: how many members are behind it, the sum of their bonds, and whether that is a supermajority.
 pub struct Backing {
@@ -26,27 +29,36 @@ pub struct Backing {
     pub quorum: bool,
 }
 
+// The backing that voters give a link.
+fn backed_by(v: Voters, bonds: &[u64], members: usize, quota: Quota) -> Backing
+    requires { ⌜ Bonds (now bonds) members × Fits quota ⌝ }
+    ensures { λ r. ⌜ IsBacking (now (bonds .entry)) members quota v r ⌝ }
+{
+    let sum = voters::weigh(v, bonds, members);
+    Backing {
+        number: voters::number(v),
+        bonds: sum,
+        quorum: voters::is_quorum(sum, quota),
+    }
+}
+
 // The backing of the link s -> t.
 pub fn support(w: Witness, s: Place, t: Place) -> Backing
     requires { ⌜ Sound w × (s .0 < w .«checkpoint_count») × (t .0 < w .«checkpoint_count») ⌝ }
     ensures { λ r. ⌜ backingOf r ≡ support (modelOf w) (s .0) (t .0) ⌝ }
 {
+    let from = s.0 as usize;
+    let to = t.0 as usize;
     let members = w.member_count;
     let sources = w.sources;
     let b = votes::prepare(w);
     let who = b.who;
     let head = b.head;
     let next = b.next;
-    let to = t.0 as usize;
-    let from = s.0 as usize;
     let tally = votes::gather(&who, sources, &next, head[to]);
     let v = tally[from];
-    let bonds = voters::weigh(v, &w.bonds, members);
-    Backing {
-        number: voters::number(v),
-        bonds,
-        quorum: voters::is_quorum(bonds, b.total),
-    }
+    let quota = b.quota;
+    backed_by(v, &w.bonds, members, quota)
 }
 
 // The standing of a held place.

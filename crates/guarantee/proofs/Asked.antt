@@ -4,12 +4,13 @@ use native.Mathlib.Omega.{arith}
 use mathlib.Core.Path.{_≡_, sym, ap, _∙_, subst}
 use mathlib.Core.List.{List}
 use lib.ListN.{length}
-use Rattle.model.specs.Answer.{Answer, refused, answer}
+use Rattle.model.specs.Answer.{Answer, refused, answer, andThen}
 use Rattle.model.specs.Bytes.{AreBytes, part}
+use Rattle.model.specs.Change.{nothingLeft}
+use Rattle.model.specs.Evidence.{ourList}
 use Rattle.model.specs.Log.{header}
 use Rattle.model.specs.Model.{Model, start}
 use Rattle.model.specs.Refusals.{refusalNumber}
-use Rattle.model.specs.Run.{nothingLeft}
 use Rattle.model.specs.declared.Refusal.{Refusal}
 use Rattle.state.specs.Reading.{outcomeOf, startOf}
 use Rattle.state.specs.State.{emptyWitness}
@@ -21,10 +22,10 @@ use Rattle.checker.specs.declared.CheckAnswer.the-variants.{Refused as RefusedC
 use Rattle.evidence.specs.Listed.{listAnswerOf}
 use Rattle.evidence.specs.declared.ListAnswer.the-variants.{Refused as RefusedList}
 use Rattle.witness.specs.Answers.{statusOf, conflictOf}
-use Rattle.witness.specs.Calls.{onSound, statusCall, conflictCall, listCall, listBuffer, checkCall}
+use Rattle.witness.specs.Calls.{onSound, statusCall, conflictCall, writeCall, writeBuffer, checkCall}
 use Rattle.witness.specs.declared.StatusAnswer.the-variants.{Refused as RefusedStatus}
 use Rattle.witness.specs.declared.ConflictAnswer.the-variants.{Refused as RefusedConflict}
-use Rattle.guarantee.specs.Book.{book, byHeader, onBook, bookLast, recordsRead, IsAnswers, bookBuffer}
+use Rattle.guarantee.specs.Book.{book, onBook, bookLast, recordsRead, IsAnswers, bookBuffer}
 use Rattle.guarantee.specs.LogRead.{Reads, readOf, recordsOf, replayed, IsReplay}
 use Rattle.reader.specs.Many.{lastTold}
 use Rattle.guarantee.specs.declared.Answers.{Answers}
@@ -58,16 +59,16 @@ module _ (w : Witness) (log : List ℕ) (limit : ℕ) (r : Replayed) (is : IsRep
       subst (λ (v : Reads). Holds (v .witness) (book limit log name)) (sym (read-is e)) (run-holds (emptyWitness name) (start name) (empty-holds e) (recordsOf limit log) (records-bytes limit log bytes))
 
   pub asked : {A : Type 0} (answers : Model → Answer A) → AreBytes log → r .start ≡ Begun → onSound held answers ≡ onBook limit log answers
-  unfolding byHeader
-  asked answers bytes e = answered held (book limit log name) (holds-book bytes e) answers ∙ ap (λ h. byHeader h (λ n. answers (book limit log n))) (sym (begun-is e))
+  unfolding andThen
+  asked answers bytes e = answered held (book limit log name) (holds-book bytes e) answers ∙ ap (λ h. andThen h (λ n. answers (book limit log n))) (sym (begun-is e))
 
   -- what the last record came to, by the book
-  last-asked : AreBytes log → r .start ≡ Begun → outcomeOf (r .read .last) ≡ byHeader (header log) (bookLast limit log)
-  unfolding byHeader replayed
+  last-asked : AreBytes log → r .start ≡ Begun → outcomeOf (r .read .last) ≡ andThen (header log) (bookLast limit log)
+  unfolding andThen replayed
   last-asked bytes e =
       ap (λ (v : Reads). v .last) (read-is e)
       ∙ ap (lastTold (answer nothingLeft)) (run-told (emptyWitness name) (start name) (empty-holds e) (recordsOf limit log) (records-bytes limit log bytes))
-      ∙ ap (λ h. byHeader h (bookLast limit log)) (sym (begun-is e))
+      ∙ ap (λ h. andThen h (bookLast limit log)) (sym (begun-is e))
 
   records-asked : r .start ≡ Begun → r .read .records ≡ recordsRead (header log) limit log
   unfolding recordsRead replayed
@@ -75,16 +76,16 @@ module _ (w : Witness) (log : List ℕ) (limit : ℕ) (r : Replayed) (is : IsRep
       let none-before : 0 + length (recordsOf limit log) ≡ length (recordsOf limit log) = omega arith in
       ap (λ (v : Reads). v .records) (read-is e) ∙ none-before ∙ ap (λ h. recordsRead h limit log) (sym (begun-is e))
 
-  refused-asked : {A : Type 0} (answers : List ℕ → Answer A) (f : Refusal) → r .start ≡ RefusedHeader f → refused (refusalNumber f) ≡ byHeader (header log) answers
-  unfolding byHeader
-  refused-asked answers f e = ap (λ h. byHeader h answers) (refused-is f e)
+  refused-asked : {A : Type 0} (answers : List ℕ → Answer A) (f : Refusal) → r .start ≡ RefusedHeader f → refused (refusalNumber f) ≡ andThen (header log) answers
+  unfolding andThen
+  refused-asked answers f e = ap (λ h. andThen h answers) (refused-is f e)
 
   -- ---- all the answers, and the buffer
 
   module _ (p : ℕ) (list buffer : List ℕ) where
     pub answers-begun : AreBytes log → r .start ≡ Begun → (a : Answers) → a .last ≡ r .read .last → a .records ≡ r .read .records → statusOf (a .status) ≡ statusCall held p
-        → conflictOf (a .conflict) ≡ conflictCall held → listAnswerOf (a .ours) ≡ listCall held buffer → checkOf (a .theirs) ≡ checkCall held list → IsAnswers log limit p list buffer a
-    unfolding statusCall conflictCall listCall checkCall
+        → conflictOf (a .conflict) ≡ conflictCall held → listAnswerOf (a .ours) ≡ writeCall ourList held buffer → checkOf (a .theirs) ≡ checkCall held list → IsAnswers log limit p list buffer a
+    unfolding statusCall conflictCall writeCall checkCall
     answers-begun bytes e a l n s c o t = record {
       last = ap outcomeOf l ∙ last-asked bytes e;
       records = n ∙ records-asked e;
@@ -106,10 +107,10 @@ module _ (w : Witness) (log : List ℕ) (limit : ℕ) (r : Replayed) (is : IsRep
       theirs = refused-asked _ f e;
     }
 
-  pub buffer-begun : (buffer : List ℕ) → AreBytes log → r .start ≡ Begun → listBuffer held buffer (listCall held buffer) ≡ bookBuffer (header log) limit log buffer
+  pub buffer-begun : (buffer : List ℕ) → AreBytes log → r .start ≡ Begun → writeBuffer ourList held buffer ≡ bookBuffer (header log) limit log buffer
   unfolding bookBuffer
   buffer-begun buffer bytes e =
-      buffer-is held (book limit log name) (holds-book bytes e) buffer ∙ ap (λ x. bookBuffer x limit log buffer) (sym (begun-is e))
+      buffer-is held (book limit log name) (holds-book bytes e) ourList buffer ∙ ap (λ x. bookBuffer x limit log buffer) (sym (begun-is e))
 
   pub buffer-refused : (buffer : List ℕ) (f : Refusal) → r .start ≡ RefusedHeader f → buffer ≡ bookBuffer (header log) limit log buffer
   unfolding bookBuffer

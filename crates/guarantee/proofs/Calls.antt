@@ -11,12 +11,12 @@ use lib.Dec.{eqb, ltb}
 use lib.ListN.{length, drop, length-drop, length-append}
 use Rattle.model.specs.Answer.{Answer, answer}
 use Rattle.model.specs.Bytes.{AreBytes}
+use Rattle.model.specs.Change.{Told, nothingLeft}
 use Rattle.model.specs.Decide.{decide}
 use Rattle.model.specs.Log.{recordLength}
-use Rattle.model.specs.Run.{Told, nothingLeft, told}
 use Rattle.model.proofs.Lists.{clash, lt-or-ge}
 use Rattle.state.specs.Reading.{outcomeOf}
-use Rattle.state.specs.State.{modelOf, store}
+use Rattle.state.specs.State.{modelOf, stored}
 use Rattle.state.specs.declared.Outcome.{Outcome}
 use Rattle.state.specs.declared.Witness.{Witness}
 use Rattle.reader.specs.Many.{Ended, readMany, lastTold, endOf, endedTold, IsBatch}
@@ -47,10 +47,10 @@ module _ {whole : Reads} {limit : ℕ} {log : List ℕ} {t : Answer Told} {k : �
       record { far = omega arith; near = λ e. refl; read = subst (λ (j : ℕ). Sofar whole limit log t j w at) sum (call .so) }
 
   one-passed : (ts : List (Answer Told)) (v : Witness) (p : ℕ) → length ts < n → eqb (recordLength (drop p log)) 0 ≡ false → Reached ts v p
-      → Reached (ts ++ told (decide (modelOf v) (drop p log)) ∷ []) (store v (decide (modelOf v) (drop p log))) (p + recordLength (drop p log))
+      → Reached (ts ++ decide (modelOf v) (drop p log) .told ∷ []) (stored v (decide (modelOf v) (drop p log))) (p + recordLength (drop p log))
   one-passed ts v p few more to =
       let s = drop p log in
-      let u = told (decide (modelOf v) s) in
+      let u = decide (modelOf v) s .told in
       let some = eqb-false (recordLength s) 0 more in
       let one = length-append ts (u ∷ []) in
       let sum : k + length ts + 1 ≡ k + length (ts ++ u ∷ []) = omega (arith, one) in
@@ -58,7 +58,7 @@ module _ {whole : Reads} {limit : ℕ} {log : List ℕ} {t : Answer Told} {k : �
         far = omega (arith, to .far, one, some);
         near = λ e. absurd (omega (arith, one, e));
         read =
-            subst₂ (λ (x : Answer Told) (j : ℕ). Sofar whole limit log x j (store v (decide (modelOf v) s)) (p + recordLength s)) (sym (last-is t u ts)) sum
+            subst₂ (λ (x : Answer Told) (j : ℕ). Sofar whole limit log x j (stored v (decide (modelOf v) s)) (p + recordLength s)) (sym (last-is t u ts)) sum
             (goes-on (to .read) (omega (arith, some, length-inside s, length-drop p log)) (omega (arith, call .few)) (call .bytes) more);
       }
 
@@ -97,7 +97,7 @@ module _ {whole : Reads} {limit : ℕ} {log : List ℕ} {t : Answer Told} {k : �
   stopped o u says short inside =
       let here = many-ends log n w at .here (omega (arith, call .is .records)) in
       let none : recordLength (drop (r .next) log) ≡ 0 = ap (λ (p : ℕ). recordLength (drop p log)) (call .is .next) ∙ here .0 in
-      let said : outcomeOf o ≡ told (decide (modelOf (r .witness)) (drop (r .next) log)) =
-      says ∙ ap (λ (e : Ended). endedTold e u) (call .is .end ∙ here .1) ∙ (λ i. told (decide (modelOf (sym (call .is .witness) i)) (drop (sym (call .is .next) i) log)))
+      let said : outcomeOf o ≡ decide (modelOf (r .witness)) (drop (r .next) log) .told =
+      says ∙ ap (λ (e : Ended). endedTold e u) (call .is .end ∙ here .1) ∙ (λ i. decide (modelOf (sym (call .is .witness) i)) (drop (sym (call .is .next) i) log) .told)
       in
       ap (λ (u : Answer Told). record { last = u; records = k + r .records + 1; witness = r .witness }) said ∙ stops-here so-far inside (omega (arith, call .few)) none

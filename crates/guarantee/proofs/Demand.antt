@@ -2,120 +2,108 @@
 use Prim.Native.Nat.{ℕ}
 use native.Mathlib.Omega.{arith}
 use mathlib.Core.Path.{_≡_, refl, sym, ap, ap₂, _∙_, subst}
-use mathlib.Core.List.{List, [], _∷_, _++_, map}
-use mathlib.Core.Bool.{Bool, true, false, cond}
-use lib.Dec.{ltb}
+use mathlib.Core.List.{List, [], _∷_}
 use lib.ListN.{length, drop, length-drop}
-use Rattle.model.specs.Answer.{Answer, answer, row}
+use Rattle.model.specs.Answer.{Answer}
+use Rattle.model.specs.Buffer.{writeText, bufferAfter}
 use Rattle.model.specs.Bytes.{AreBytes}
+use Rattle.model.specs.Change.{Decision, decided}
 use Rattle.model.specs.Checker.{check}
-use Rattle.model.specs.Decide.{decide}
 use Rattle.model.specs.Evidence.{ourList}
-use Rattle.model.specs.Limits.{rootHeight}
 use Rattle.model.specs.Lists.{All, none, each}
-use Rattle.model.specs.Model.{Model, start, apply}
-use Rattle.model.specs.Run.{Event, reading, OfBytes, told, decideEvent, after, outcomes}
+use Rattle.model.specs.Model.{Model, start}
+use Rattle.model.specs.Run.{Event, OfBytes, decideEvent, after, outcomes}
 use Rattle.model.specs.WellFormed.{WellFormed}
 use Rattle.model.proofs.Bytes.{drop-bytes}
 use Rattle.model.proofs.Checker.{checker-exact, list-exact, our-list-passes}
 use Rattle.model.proofs.Conduct.{conduct-exact}
 use Rattle.model.proofs.Finality.{status-exact, conflict-exact}
 use Rattle.model.proofs.Readings.{readings-bound, readings-bytes}
-use Rattle.model.proofs.Run.{start-good, event-good}
-use Rattle.model.proofs.Sound.{true-well-formed}
 use Rattle.safety.proofs.Safety.{accountable-safety, no-innocent-named}
-use Rattle.state.specs.State.{Typed, emptyWitness, modelOf, store}
+use Rattle.state.specs.Sound.{Sound}
+use Rattle.state.specs.State.{emptyWitness, modelOf, stored}
 use Rattle.state.specs.declared.Witness.{Witness}
-use Rattle.state.proofs.Kept.{reading-kept}
-use Rattle.state.proofs.Started.{empty-model, empty-typed, header-name}
-use Rattle.witness.specs.Calls.{sound?, onSound, decided, statusCall, supportCall, conflictCall, listCall, listBuffer, checkCall}
-use Rattle.witness.proofs.Guarded.{on-sound, sound-good}
+use Rattle.state.proofs.Kept.{event-kept, event-sound}
+use Rattle.state.proofs.Sound.{sound-true, true-sound}
+use Rattle.state.proofs.Started.{empty-model, empty-sound, header-name}
+use Rattle.witness.specs.Calls.{onSound, eventCall, statusCall, supportCall, conflictCall, writeCall, writeBuffer, checkCall}
+use Rattle.witness.proofs.Guarded.{on-sound, sound-event}
 use Rattle.guarantee.specs.Demand2.{ByTheRules, Demand2}
 use Rattle.guarantee.specs.Demand3.{witnessAfter, toldOf, Guarantee, Demand3}
 use Rattle.guarantee.specs.LogRead.{recordsOf, replayed, LogIsRun, LogIsWhole}
 
-pub good-sound : (w : Witness) → WellFormed rootHeight (modelOf w) → sound? w ≡ true
-unfolding sound?
-good-sound w good = true-well-formed rootHeight (modelOf w) good
-
 -- where the witness holds the model, and goes on holding it
 pub record Holds (w : Witness) (b : Model) : Type 0 where
   pub model : modelOf w ≡ b
-  pub typed : Typed w
-  pub good : WellFormed rootHeight b
+  pub sound : Sound w
 
-pub well-formed : (w : Witness) (b : Model) → Holds w b → WellFormed rootHeight (modelOf w)
-well-formed w b h = subst (WellFormed rootHeight) (sym (h .model)) (h .good)
+module _ (w : Witness) (b : Model) (h : Holds w b) where
+  -- a call's answer is the rules' answer on the model
+  pub answered : {A : Type 0} (answers : Model → Answer A) → onSound w answers ≡ answers b
+  answered answers = on-sound w answers (true-sound w (h .sound)) ∙ ap answers (h .model)
 
--- what the call decides is what the model decides
-pub decided-is : (w : Witness) (b : Model) → Holds w b → (s : List ℕ) → decided w s ≡ decide b s
-unfolding decided
-decided-is w b h s = on-sound w (λ m. decide m s) (good-sound w (well-formed w b h)) ∙ ap (λ (m : Model). decide m s) (h .model)
+  good : WellFormed b
+  good = subst (λ (m : Model). WellFormed m) (h .model) (h .sound .good)
 
-step-holds : (w : Witness) (b : Model) → Holds w b → (s : List ℕ) → AreBytes s → Holds (store w (decided w s)) (apply b (decide b s))
-unfolding decideEvent
-step-holds w b h s bytes =
-    let kept = reading-kept w (h .typed) s bytes in
-    let same : decided w s ≡ decide (modelOf w) s = decided-is w b h s ∙ ap (λ (m : Model). decide m s) (sym (h .model)) in
+  -- what the call decides is what the model decides
+  pub decided-is : (e : Event) → eventCall w e ≡ decideEvent b e
+  decided-is e = sound-event w e (true-sound w (h .sound)) ∙ ap (λ (m : Model). decideEvent m e) (h .model)
+
+step-holds : (w : Witness) (b : Model) → Holds w b → (e : Event) → OfBytes e → Holds (stored w (eventCall w e)) (decided b (decideEvent b e))
+step-holds w b h e bytes =
+    let same = sym (sound-event w e (true-sound w (h .sound))) in
     record {
-      model = ap (λ a. modelOf (store w a)) same ∙ kept .model ∙ ap (λ (m : Model). apply m (decide m s)) (h .model);
-      typed = subst (λ a. Typed (store w a)) (sym same) (kept .typed);
-      good = event-good rootHeight b (h .good) (reading s) bytes;
+      model =
+          ap (λ (d : Decision). modelOf (stored w d)) (sym same)
+          ∙ event-kept w (h .sound .typed) e bytes .model
+          ∙ ap (λ (m : Model). decided m (decideEvent m e)) (h .model);
+      sound = subst (λ (d : Decision). Sound (stored w d)) same (event-sound w (h .sound) e bytes);
     }
 
 pub run-holds : (w : Witness) (b : Model) → Holds w b → (es : List Event) → All OfBytes es → Holds (witnessAfter w es) (after b es)
-unfolding witnessAfter after decideEvent
+unfolding witnessAfter after
 run-holds w b h [] none = h
-run-holds w b h (reading s ∷ es) (each bytes rest) = run-holds (store w (decided w s)) (apply b (decide b s)) (step-holds w b h s bytes) es rest
+run-holds w b h (e ∷ es) (each bytes rest) = run-holds (stored w (eventCall w e)) (decided b (decideEvent b e)) (step-holds w b h e bytes) es rest
 
-pub run-told : (w : Witness) (b : Model) → Holds w b → (es : List Event) → All OfBytes es → toldOf w es ≡ map told (outcomes b es)
-unfolding toldOf outcomes decideEvent
+pub run-told : (w : Witness) (b : Model) → Holds w b → (es : List Event) → All OfBytes es → toldOf w es ≡ outcomes b es
+unfolding toldOf outcomes
 run-told w b h [] none = refl
-run-told w b h (reading s ∷ es) (each bytes rest) =
-    ap₂ _∷_ (ap told (decided-is w b h s)) (run-told (store w (decided w s)) (apply b (decide b s)) (step-holds w b h s bytes) es rest)
+run-told w b h (e ∷ es) (each bytes rest) =
+    ap₂ _∷_ (ap (λ (d : Decision). d .told) (decided-is w b h e))
+    (run-told (stored w (eventCall w e)) (decided b (decideEvent b e)) (step-holds w b h e bytes) es rest)
 
 pub start-holds : (name : List ℕ) → length name ≡ 32 → Holds (emptyWitness name) (start name)
-start-holds name long = record { model = empty-model name long; typed = empty-typed name long; good = start-good name }
-
--- a call's answer is the rules' answer on the model
-pub answered : {A : Type 0} (w : Witness) (b : Model) → Holds w b → (answers : Model → Answer A) → onSound w answers ≡ answers b
-answered w b h answers = on-sound w answers (good-sound w (well-formed w b h)) ∙ ap answers (h .model)
+start-holds name long = record { model = empty-model name long; sound = empty-sound name long }
 
 -- ---- each call
 
 module _ (w : Witness) (b : Model) (h : Holds w b) where
-  pub buffer-is : (buffer : List ℕ)
-      → listBuffer w buffer (listCall w buffer) ≡ cond (ltb (length buffer) (length (ourList b))) buffer (ourList b ++ drop (length (ourList b)) buffer)
-  unfolding listCall listBuffer row
-  buffer-is buffer =
-      ap (listBuffer w buffer) (answered w b h (λ m. row 60 (ltb (length buffer) (length (ourList m))) (answer (length (ourList m)))))
-      ∙ go (ltb (length buffer) (length (ourList b)))
-    where
-      go : (t : Bool) → listBuffer w buffer (row 60 t (answer (length (ourList b)))) ≡ cond t buffer (ourList b ++ drop (length (ourList b)) buffer)
-      go true = refl
-      go false = ap (λ (m : Model). ourList m ++ drop (length (ourList b)) buffer) (h .model)
+  pub buffer-is : (text : Model → List ℕ) (buffer : List ℕ) → writeBuffer text w buffer ≡ bufferAfter (text b) buffer (writeText (text b) buffer)
+  unfolding writeBuffer writeCall
+  buffer-is text buffer =
+      ap₂ (λ (m : Model) (a : Answer ℕ). bufferAfter (text m) buffer a) (h .model) (answered w b h (λ m. writeText (text m) buffer))
 
   by-the-rules : ByTheRules w b
-  unfolding statusCall supportCall conflictCall listCall checkCall
+  unfolding statusCall supportCall conflictCall writeCall checkCall
   by-the-rules = record {
     held = h .model;
     status-answer = λ p. answered w b h _;
-    status-exact = status-exact rootHeight b (h .good);
+    status-exact = status-exact b (good w b h);
     support-answer = λ s t. answered w b h _;
     conflict-answer = answered w b h _;
-    conflict-exact = conflict-exact rootHeight b (h .good);
+    conflict-exact = conflict-exact b (good w b h);
     list-answer = λ buffer. answered w b h _;
-    list-written = buffer-is;
-    list-exact = list-exact rootHeight b (h .good);
+    list-written = buffer-is ourList;
+    list-exact = list-exact b (good w b h);
     checker-answer = λ l. answered w b h (λ m. check m l);
     checker-exact = λ l. checker-exact b l;
     conduct-exact = λ id. conduct-exact b id;
-    named-exact = our-list-passes rootHeight b (h .good);
+    named-exact = our-list-passes b (good w b h);
     none-innocent = λ l s bytes passes. no-innocent-named b l s bytes (sym (answered w b h (λ m. check m l)) ∙ passes);
   }
 
 pub demand-2 : Demand2
-demand-2 w typed sound = by-the-rules w (modelOf w) (record { model = refl; typed = typed; good = sound-good w typed sound })
+demand-2 w typed sound = by-the-rules w (modelOf w) (record { model = refl; sound = sound-true w typed sound })
 
 pub demand-3 : Demand3
 demand-3 name long es bytes =

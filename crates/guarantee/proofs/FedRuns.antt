@@ -11,25 +11,29 @@ use lib.ListN.{length, drop, length-drop, length-append}
 use lib.Seq.{drop-drop}
 use Rattle.model.specs.Answer.{Answer, refused, answer}
 use Rattle.model.specs.Bytes.{AreBytes}
+use Rattle.model.specs.Change.{Decision, single, decided}
 use Rattle.model.specs.Decide.{decide, decideRecord}
 use Rattle.model.specs.Log.{header, recordLength, decode}
-use Rattle.model.specs.Model.{Change, apply}
+use Rattle.model.specs.Model.{Model}
 use Rattle.model.specs.Report.{outcomeLine, outcomeLines}
-use Rattle.model.specs.Run.{decideEvent, outcomes}
-use Rattle.state.specs.State.{modelOf, store}
+use Rattle.model.specs.Run.{Event, reading, decideEvent, outcomes}
+use Rattle.model.proofs.Refused.{Keeps, single-keeps, refused-keeps as event-keeps}
+use Rattle.state.specs.State.{modelOf, storeAll, stored}
 use Rattle.state.specs.declared.Witness.{Witness}
 use Rattle.state.proofs.Kept.{reading-kept}
 use Rattle.reader.specs.Many.{endedBy}
 use Rattle.reader.proofs.Made.{length-inside}
-use Rattle.reader.proofs.Runs.{Sound}
-use Rattle.witness.specs.Calls.{sound?, decided, manyCall}
-use Rattle.witness.proofs.Guarded.{sound-good}
+use Rattle.state.specs.Sound.{Sound, sound?}
+use Rattle.state.proofs.Sound.{sound-true}
+use Rattle.witness.specs.Calls.{held, decideOn, eventCall}
+use Rattle.witness.specs.Readings.{manyCall}
 use Rattle.report.specs.Feed.{Paused, wants, full, outOfNumbers, ended, refusedBy, Feeding, pausedAt, ahead, lineRoom, lastNumber, spent, halted, headed, openCall, feedCall, endFed, endCall, endText}
 use Rattle.report.specs.Feed as Feed
 use Rattle.report.proofs.ByRecord.{call-elim, Halts, nothing-left, unknown, cut, halts, unknown-decided, cut-decided}
 use Rattle.guarantee.specs.CallsAreRuns.{firstRecords, behindRecords, no-record, one-record, stopLine, Cause, FedRun, FeedIsRun, CallsKeep}
 use Rattle.guarantee.specs.Demand3.{witnessAfter}
-use Rattle.guarantee.proofs.FirstRecords.{decided-here, passed-first}
+use Rattle.guarantee.proofs.FirstRecords.{passed-first}
+use Rattle.guarantee.proofs.Onward.{decided-here}
 
 -- no record is passed
 module _ (room : ℕ) (w : Witness) (k : ℕ) (s : List ℕ) where
@@ -46,34 +50,35 @@ module _ (room : ℕ) (w : Witness) (k : ℕ) (s : List ℕ) where
       go true e none = none-passed full (omega (arith, ltb-true room lineRoom e))
       go false e none = none-passed outOfNumbers (eqb-true k lastNumber none)
 
-halted-run : (room : ℕ) (w : Witness) → Sound w → (k : ℕ) (s : List ℕ) → Halts s → FedRun room w k s (halted (decide (modelOf w) s) w k)
-unfolding halted decide decideRecord decode
+halted-run : (room : ℕ) (w : Witness) → Sound w → (k : ℕ) (s : List ℕ) → Halts s → FedRun room w k s (halted (decide (modelOf w) s .told) w k)
+unfolding halted decide decideRecord decode single
 halted-run room w sound k [] nothing-left = none-passed room w k [] wants (inl refl)
 halted-run room w sound k (kind ∷ r) (unknown e) =
-    let is = unknown-decided (modelOf w) kind r e .answer in
-    subst (λ (a : Answer Change). FedRun room w k (kind ∷ r) (halted a w k)) (sym is) (none-passed room w k (kind ∷ r) ended (decided-here w sound (kind ∷ r) ∙ is))
+    let is = unknown-decided (modelOf w) kind r e .is in
+    subst (λ (d : Decision). FedRun room w k (kind ∷ r) (halted (d .told) w k)) (sym is) (none-passed room w k (kind ∷ r) ended (ap (λ (d : Decision). d .told) (decided-here w sound (kind ∷ r) ∙ is)))
 halted-run room w sound k (kind ∷ r) (cut short) =
-    let is = cut-decided (modelOf w) kind r short .answer in
-    subst (λ (a : Answer Change). FedRun room w k (kind ∷ r) (halted a w k)) (sym is) (none-passed room w k (kind ∷ r) wants (inr (decided-here w sound (kind ∷ r) ∙ is)))
+    let is = cut-decided (modelOf w) kind r short .is in
+    subst (λ (d : Decision). FedRun room w k (kind ∷ r) (halted (d .told) w k)) (sym is) (none-passed room w k (kind ∷ r) wants (inr (ap (λ (d : Decision). d .told) (decided-here w sound (kind ∷ r) ∙ is))))
 
 -- why a call paused stays so with a line in front of its text
 ahead-cause : (room : ℕ) (why : Paused) (f : Feeding) (line : List ℕ) (size : ℕ) (rest rest′ : List ℕ) → rest ≡ rest′ → Cause why (room - length line) f rest → Cause why room (ahead line size f) rest′
-ahead-cause room wants f line size rest rest′ same c = subst (λ (l : List ℕ). (l ≡ []) ⊎ (decided (f .witness) l ≡ refused 5)) same c
+ahead-cause room wants f line size rest rest′ same c = subst (λ (l : List ℕ). (l ≡ []) ⊎ (eventCall (f .witness) (reading l) .told ≡ refused 5)) same c
 ahead-cause room full f line size rest rest′ same c = omega (arith, c, length-append line (f .text))
 ahead-cause room outOfNumbers f line size rest rest′ same c = c
-ahead-cause room ended f line size rest rest′ same c = subst (λ (l : List ℕ). decided (f .witness) l ≡ refused 4) same c
+ahead-cause room ended f line size rest rest′ same c = subst (λ (l : List ℕ). eventCall (f .witness) (reading l) .told ≡ refused 4) same c
 ahead-cause room (refusedBy n) f line size rest rest′ same c = c
 
 -- one is, and what the call comes to behind it
 passed-run : (room : ℕ) (w : Witness) → Sound w → (k : ℕ) (s : List ℕ) → AreBytes s → eqb (recordLength s) 0 ≡ false → (f : Feeding)
-    → let a = decide (modelOf w) s in
-    FedRun (room - length (outcomeLine k a)) (store w a) (k + 1) (drop (recordLength s) s) f → FedRun room w k s (ahead (outcomeLine k a) (recordLength s) f)
+    → let d = decide (modelOf w) s in
+    let line = outcomeLine k (d .told) in
+    FedRun (room - length line) (stored w d) (k + 1) (drop (recordLength s) s) f → FedRun room w k s (ahead line (recordLength s) f)
 unfolding firstRecords behindRecords outcomes outcomeLines decideEvent
 passed-run room w sound k s bytes e f later =
-    let a = decide (modelOf w) s in
+    let d = decide (modelOf w) s in
     let size = recordLength s in
     let es = firstRecords (later .number) (drop size s) in
-    let line = outcomeLine k a in
+    let line = outcomeLine k (d .told) in
     let past = drop-drop (f .passed) size s in
     let one : k + 1 ≡ suc k = omega arith in
     record {
@@ -85,7 +90,7 @@ passed-run room w sound k s bytes e f later =
       left = sym past ∙ later .left;
       text =
           ap (λ (x : List ℕ). line ++ x) (later .text ∙ (λ i. outcomeLines (one i) (outcomes (reading-kept w (sound .typed) s bytes .model i) es) ++ stopLine (f .paused) (f .records)))
-          ∙ sym (append-assoc line (outcomeLines (suc k) (outcomes (apply (modelOf w) a) es)) (stopLine (f .paused) (f .records)));
+          ∙ sym (append-assoc line (outcomeLines (suc k) (outcomes (decided (modelOf w) d) es)) (stopLine (f .paused) (f .records)));
       cause = ahead-cause room (f .paused) f line size (drop (f .passed) (drop size s)) (drop (size + f .passed) s) past (later .cause);
     }
 
@@ -95,11 +100,19 @@ feed-is-run w typed is-sound room k s bytes =
     (λ space v sound n l none. spent-run space v n l none)
     (λ space v sound n l e. halted-run space v sound n l (halts l e))
     (λ space v sound n l are e f later. passed-run space v sound n l are e f later)
-    room w (record { typed = typed; good = sound-good w typed is-sound }) k s bytes
+    room w (sound-true w typed is-sound) k s bytes
 
 -- ---- calls that leave the witness handed in
 
 module _ (w : Witness) where
+  refused-keeps : (e : Event) (n : ℕ) → eventCall w e .told ≡ refused n → stored w (eventCall w e) ≡ w
+  unfolding storeAll decideOn
+  refused-keeps e n told = ap (storeAll w) (kept (held w) n told)
+    where
+      kept : (h : Answer Model) → Keeps (decideOn h e)
+      kept (refused k) = single-keeps (refused k)
+      kept (answer m) = event-keeps m e
+
   close-keeps : (room k left : ℕ) → endCall room w k left .witness ≡ w
   unfolding endCall endFed Feed.onSound
   close-keeps room k left = go (sound? w) (ltb room (length (endText (modelOf w) k left)))
@@ -128,4 +141,4 @@ module _ (w : Witness) where
   many-unsound e n log at = rw e
 
 pub calls-keep : CallsKeep
-calls-keep w = record { close-keeps = close-keeps w; open-keeps = open-keeps w; feed-unsound = feed-unsound w; many-unsound = many-unsound w }
+calls-keep w = record { refused-keeps = refused-keeps w; close-keeps = close-keeps w; open-keeps = open-keeps w; feed-unsound = feed-unsound w; many-unsound = many-unsound w }

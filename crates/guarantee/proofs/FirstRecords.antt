@@ -3,31 +3,33 @@ use Prim.Native.Nat.{ℕ, zero, suc, _+_}
 use native.Mathlib.Omega.{arith}
 use mathlib.Core.Path.{_≡_, refl, sym, ap, _∙_, subst}
 use mathlib.Core.List.{List, [], _∷_, _++_}
-use mathlib.Core.Bool.{not}
 use borrow.Author.Tests.{ne-eqb}
 use lib.ListN.{drop}
-use Rattle.model.specs.Answer.{Answer, row}
+use Rattle.model.specs.Answer.{Answer, refused, answer}
 use Rattle.model.specs.Bytes.{AreBytes}
+use Rattle.model.specs.Change.{Decision}
 use Rattle.model.specs.Decide.{decide}
 use Rattle.model.specs.Lists.{All, none, each}
 use Rattle.model.specs.Log.{recordLength}
-use Rattle.model.specs.Model.{Change, start}
-use Rattle.model.specs.Run.{Event, reading, OfBytes, after}
-use Rattle.state.specs.State.{emptyWitness, modelOf, store}
+use Rattle.model.specs.Model.{Model, start}
+use Rattle.model.specs.Run.{Event, reading, OfBytes, decideEvent, after}
+use Rattle.state.specs.State.{emptyWitness, modelOf, stored}
 use Rattle.state.specs.declared.Witness.{Witness}
 use Rattle.reader.specs.Many.{behind}
-use Rattle.reader.proofs.Runs.{Sound, bytes-left}
-use Rattle.witness.specs.Calls.{sound?, onSound, decided}
+use Rattle.model.proofs.Bytes.{drop-bytes}
+use Rattle.state.specs.Sound.{Sound}
+use Rattle.state.proofs.Sound.{true-sound}
+use Rattle.witness.specs.Calls.{held, decideOn, eventCall}
 use Rattle.report.proofs.Prefix.{SameFront, whole-front}
 use Rattle.guarantee.specs.CallsAreRuns.{firstRecords, behindRecords, Whole, no-record, one-record, RunGoesOn}
 use Rattle.guarantee.specs.Demand3.{witnessAfter, Guarantee}
-use Rattle.guarantee.proofs.Demand.{good-sound, well-formed, decided-is, run-holds, run-told, start-holds, demand-3}
-use Rattle.guarantee.proofs.Onward.{holds}
+use Rattle.guarantee.proofs.Demand.{run-holds, run-told, start-holds, demand-3}
+use Rattle.guarantee.proofs.Onward.{holds, decided-here}
 
 pub after-both : (w : Witness) (es fs : List Event) → witnessAfter w (es ++ fs) ≡ witnessAfter (witnessAfter w es) fs
 unfolding witnessAfter
 after-both w [] fs = refl
-after-both w (reading s ∷ es) fs = after-both (store w (decided w s)) es fs
+after-both w (e ∷ es) fs = after-both (stored w (eventCall w e)) es fs
 
 all-both : {es fs : List Event} → All OfBytes es → All OfBytes fs → All OfBytes (es ++ fs)
 all-both none ys = ys
@@ -38,24 +40,21 @@ all-both (each x xs) ys = each x (all-both xs ys)
 pub first-bytes : (k : ℕ) (s : List ℕ) → AreBytes s → All OfBytes (firstRecords k s)
 unfolding firstRecords
 first-bytes zero s bytes = none
-first-bytes (suc k) s bytes = each bytes (first-bytes k (drop (recordLength s) s) (bytes-left (recordLength s) s bytes))
+first-bytes (suc k) s bytes = each bytes (first-bytes k (drop (recordLength s) s) (drop-bytes (recordLength s) s bytes))
 
--- ---- reading a record by the call is reading it by the model
-
-pub decided-here : (w : Witness) → Sound w → (s : List ℕ) → decided w s ≡ decide (modelOf w) s
-decided-here w sound s = decided-is w (modelOf w) (holds w sound) s
+-- ---- runs
 
 -- a run leaves a sound witness
 pub run-sound : (w : Witness) → Sound w → (es : List Event) → All OfBytes es → Sound (witnessAfter w es)
-run-sound w sound es bytes = let h = run-holds w (modelOf w) (holds w sound) es bytes in record { typed = h .typed; good = well-formed (witnessAfter w es) (after (modelOf w) es) h }
+run-sound w sound es bytes = run-holds w (modelOf w) (holds w sound) es bytes .sound
 
 pub run-goes-on : RunGoesOn
 run-goes-on name long before es old new =
     let h = run-holds (emptyWitness name) (start name) (start-holds name long) before old in
     let w = witnessAfter (emptyWitness name) before in
     record {
-      typed = h .typed;
-      sound = good-sound w (well-formed w (after (start name) before) h);
+      typed = h .sound .typed;
+      sound = true-sound w (h .sound);
       outcomes-agree = run-told w (after (start name) before) h es new;
       guarantee =
           subst (λ (v : Witness). Guarantee name (before ++ es) v (after (start name) (before ++ es))) (after-both (emptyWitness name) before es)
@@ -63,9 +62,9 @@ run-goes-on name long before es old new =
     }
 
 -- a record that is passed, and those behind it
-pub passed-first : (w : Witness) → Sound w → (s : List ℕ) (es : List Event) → witnessAfter (store w (decide (modelOf w) s)) es ≡ witnessAfter w (reading s ∷ es)
+pub passed-first : (w : Witness) → Sound w → (s : List ℕ) (es : List Event) → witnessAfter (stored w (decide (modelOf w) s)) es ≡ witnessAfter w (reading s ∷ es)
 unfolding witnessAfter
-passed-first w sound s es = ap (λ (a : Answer Change). witnessAfter (store w a) es) (sym (decided-here w sound s))
+passed-first w sound s es = ap (λ (d : Decision). witnessAfter (stored w d) es) (sym (decided-here w sound s))
 
 -- ---- bytes behind them
 
@@ -85,16 +84,20 @@ module _ (t : List ℕ) where
       ap (behindRecords k) (f .behind) ∙ behind-same later
 
   pub after-same : {k : ℕ} {s : List ℕ} (w : Witness) → Whole k s → witnessAfter w (firstRecords k s) ≡ witnessAfter w (firstRecords k (s ++ t))
-  unfolding firstRecords witnessAfter decided onSound
+  unfolding firstRecords witnessAfter decideOn decideEvent
   after-same w no-record = refl
   after-same {s = s} w (one-record {k} some later) =
       let f = whole-front s t (ne-eqb (recordLength s) 0 some) in
-      after-same (store w (decided w s)) later
-      ∙ ap (λ (l : List ℕ). witnessAfter (store w (decided w s)) (firstRecords k l)) (sym (f .behind))
-      ∙ ap (λ (a : Answer Change). witnessAfter (store w a) (firstRecords k (drop (recordLength (s ++ t)) (s ++ t)))) (same-decided w s f)
+      after-same (stored w (eventCall w (reading s))) later
+      ∙ ap (λ (l : List ℕ). witnessAfter (stored w (eventCall w (reading s))) (firstRecords k l)) (sym (f .behind))
+      ∙ ap (λ (d : Decision). witnessAfter (stored w d) (firstRecords k (drop (recordLength (s ++ t)) (s ++ t)))) (same-decided w s f)
     where
-      same-decided : (w : Witness) (s : List ℕ) → SameFront s t → decided w s ≡ decided w (s ++ t)
-      same-decided w s f = ap (λ (x : Answer Change). row 40 (not (sound? w)) x) (sym (f .decided (modelOf w)))
+      same-decided : (w : Witness) (s : List ℕ) → SameFront s t → eventCall w (reading s) ≡ eventCall w (reading (s ++ t))
+      same-decided w s f = on (held w)
+        where
+          on : (h : Answer Model) → decideOn h (reading s) ≡ decideOn h (reading (s ++ t))
+          on (refused n) = refl
+          on (answer m) = sym (f .decided m)
 
 -- k records, and then j
 none-more : (j : ℕ) → j ≡ 0 + j

@@ -8,23 +8,24 @@ use borrow.Author.Tests.{eqb-false}
 use lib.Dec.{eqb}
 use lib.ListN.{length, drop, length-drop}
 use lib.Seq.{drop-drop}
-use Rattle.model.specs.Answer.{Answer}
 use Rattle.model.specs.Bytes.{AreBytes}
+use Rattle.model.specs.Change.{Decision}
 use Rattle.model.specs.Decide.{decide}
 use Rattle.model.specs.Lists.{each}
 use Rattle.model.specs.Log.{recordLength}
-use Rattle.model.specs.Model.{Change}
-use Rattle.model.specs.Run.{told}
-use Rattle.state.specs.State.{modelOf, store}
+use Rattle.state.specs.State.{modelOf, stored}
 use Rattle.state.specs.declared.Witness.{Witness}
 use Rattle.reader.specs.Many.{rowsUsed, endedBy, Many, behind, readMany}
-use Rattle.reader.proofs.Runs.{Sound, bytes-left, reading-sound}
+use Rattle.model.proofs.Bytes.{drop-bytes}
+use Rattle.state.specs.Sound.{Sound}
+use Rattle.state.proofs.Kept.{reading-sound}
+use Rattle.state.proofs.Sound.{sound-true}
 use Rattle.reader.proofs.Made.{length-inside, Ends, many-ends}
-use Rattle.witness.specs.Calls.{manyCall}
-use Rattle.witness.proofs.Guarded.{sound-good}
+use Rattle.witness.specs.Readings.{manyCall}
 use Rattle.guarantee.specs.CallsAreRuns.{firstRecords, behindRecords, Whole, no-record, one-record, ManyRun, ManyIsRun}
 use Rattle.guarantee.specs.Demand3.{witnessAfter, toldOf}
-use Rattle.guarantee.proofs.FirstRecords.{first-bytes, decided-here, run-sound, passed-first}
+use Rattle.guarantee.proofs.FirstRecords.{first-bytes, run-sound, passed-first}
+use Rattle.guarantee.proofs.Onward.{decided-here}
 
 module _ (log : List ℕ) (bytes : AreBytes log) where
   -- what was passed, what it told, and what is left
@@ -38,19 +39,19 @@ module _ (log : List ℕ) (bytes : AreBytes log) where
   many-run : (n : ℕ) (w : Witness) → Sound w → (at : ℕ) → Run w at (readMany n w log at)
   unfolding readMany firstRecords behindRecords toldOf witnessAfter
   many-run zero w sound at = record { whole = no-record; each-told = refl; witness = refl; left = refl; offset = refl }
-  many-run (suc n) w sound at = go (many-run n (store w a) (reading-sound w sound s (bytes-left at log bytes)) (at + recordLength s)) (eqb (recordLength s) 0) refl
+  many-run (suc n) w sound at = go (many-run n (stored w d) (reading-sound w sound s (drop-bytes at log bytes)) (at + recordLength s)) (eqb (recordLength s) 0) refl
     where
       s : List ℕ
       s = drop at log
 
-      a : Answer Change
-      a = decide (modelOf w) s
+      d : Decision
+      d = decide (modelOf w) s
 
       on : Many
-      on = readMany n (store w a) log (at + recordLength s)
+      on = readMany n (stored w d) log (at + recordLength s)
 
-      go : Run (store w a) (at + recordLength s) on → (b : Bool) → eqb (recordLength s) 0 ≡ b
-          → Run w at (cond b (record { passed = []; end = endedBy (told a); next = at; witness = w }) (behind (told a ∷ []) on))
+      go : Run (stored w d) (at + recordLength s) on → (b : Bool) → eqb (recordLength s) 0 ≡ b
+          → Run w at (cond b (record { passed = []; end = endedBy (d .told); next = at; witness = w }) (behind (d .told ∷ []) on))
       go ih true e = record { whole = no-record; each-told = refl; witness = refl; left = refl; offset = refl }
       go ih false e =
           let k = length (on .passed) in
@@ -58,8 +59,8 @@ module _ (log : List ℕ) (bytes : AreBytes log) where
           let later = ap (firstRecords k) past in
           record {
             whole = one-record (eqb-false (recordLength s) 0 e) (subst (Whole k) past (ih .whole));
-            each-told = ap (_∷_ (told a)) (ih .each-told ∙ ap (toldOf (store w a)) later) ∙ ap (λ (x : Answer Change). told x ∷ toldOf (store w x) (firstRecords k (drop (recordLength s) s))) (sym (decided-here w sound s));
-            witness = ih .witness ∙ ap (witnessAfter (store w a)) later ∙ passed-first w sound s (firstRecords k (drop (recordLength s) s));
+            each-told = ap (_∷_ (d .told)) (ih .each-told ∙ ap (toldOf (stored w d)) later) ∙ ap (λ (x : Decision). x .told ∷ toldOf (stored w x) (firstRecords k (drop (recordLength s) s))) (sym (decided-here w sound s));
+            witness = ih .witness ∙ ap (witnessAfter (stored w d)) later ∙ passed-first w sound s (firstRecords k (drop (recordLength s) s));
             left = ih .left ∙ ap (behindRecords k) past;
             offset = ih .offset ∙ omega (arith, length-drop at log, length-drop (at + recordLength s) log, length-inside s, eqb-false (recordLength s) 0 e);
           }
@@ -68,16 +69,16 @@ module _ (log : List ℕ) (bytes : AreBytes log) where
   all-passed : (n : ℕ) (w : Witness) (at : ℕ) → length (readMany n w log at .passed) ≡ n → readMany n w log at .end ≡ rowsUsed
   unfolding readMany
   all-passed zero w at e = refl
-  all-passed (suc n) w at e = go (eqb (recordLength (drop at log)) 0) (all-passed n (store w (decide (modelOf w) (drop at log))) (at + recordLength (drop at log))) e
+  all-passed (suc n) w at e = go (eqb (recordLength (drop at log)) 0) (all-passed n (stored w (decide (modelOf w) (drop at log))) (at + recordLength (drop at log))) e
     where
-      a : Answer Change
-      a = decide (modelOf w) (drop at log)
+      d : Decision
+      d = decide (modelOf w) (drop at log)
 
       on : Many
-      on = readMany n (store w a) log (at + recordLength (drop at log))
+      on = readMany n (stored w d) log (at + recordLength (drop at log))
 
       go : (b : Bool) → (length (on .passed) ≡ n → on .end ≡ rowsUsed)
-          → let m = cond b (record { passed = []; end = endedBy (told a); next = at; witness = w }) (behind (told a ∷ []) on) in
+          → let m = cond b (record { passed = []; end = endedBy (d .told); next = at; witness = w }) (behind (d .told ∷ []) on) in
           length (m .passed) ≡ suc n → m .end ≡ rowsUsed
       go true ih e = absurd (omega (arith, e))
       go false ih e = ih (omega (arith, e))
@@ -87,13 +88,13 @@ unfolding manyCall
 many-is-run w typed is-sound n log bytes at = rw is-sound (go (readMany n w log at) refl)
   where
     sound : Sound w
-    sound = record { typed = typed; good = sound-good w typed is-sound }
+    sound = sound-true w typed is-sound
 
     go : (m : Many) → m ≡ readMany n w log at → ManyRun n w log at m
     go m e =
         let run = subst (Run log bytes w at) (sym e) (many-run log bytes n w sound at) in
         let ends = subst (Ends log n) (sym e) (many-ends log n w at) in
-        let read-sound = subst Sound (sym (run .witness)) (run-sound w sound (firstRecords (length (m .passed)) (drop at log)) (first-bytes (length (m .passed)) (drop at log) (bytes-left at log bytes))) in
+        let read-sound = subst Sound (sym (run .witness)) (run-sound w sound (firstRecords (length (m .passed)) (drop at log)) (first-bytes (length (m .passed)) (drop at log) (drop-bytes at log bytes))) in
         record {
           whole = run .whole;
           each = run .each-told;
@@ -104,5 +105,5 @@ many-is-run w typed is-sound n log bytes at = rw is-sound (go (readMany n w log 
           rows-used = subst (λ (x : Many). length (x .passed) ≡ n → x .end ≡ rowsUsed) (sym e) (all-passed log bytes n w at);
           ended-early = λ h.
               let here = ends .here h in
-              (here .0, here .1 ∙ ap (λ (x : Answer Change). endedBy (told x)) (sym (decided-here (m .witness) read-sound (drop (m .next) log))));
+              (here .0, here .1 ∙ ap (λ (x : Decision). endedBy (x .told)) (sym (decided-here (m .witness) read-sound (drop (m .next) log))));
         }

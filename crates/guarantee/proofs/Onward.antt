@@ -11,40 +11,45 @@ use lib.ListN.{length, drop, length-drop}
 use lib.Seq.{drop-drop}
 use Rattle.model.specs.Answer.{Answer, refused, answer}
 use Rattle.model.specs.Bytes.{AreBytes, part}
+use Rattle.model.specs.Change.{Told, nothingLeft, Decision}
 use Rattle.model.specs.Decide.{decide}
-use Rattle.model.specs.Limits.{rootHeight}
 use Rattle.model.specs.Log.{header, recordLength}
-use Rattle.model.specs.Model.{Change}
 use Rattle.model.specs.declared.Refusal.{Refusal}
 use Rattle.model.specs.Refusals.{refusalNumber}
-use Rattle.model.specs.Run.{Event, reading, Told, nothingLeft, told, readings}
-use Rattle.model.specs.WellFormed.{WellFormed}
+use Rattle.model.specs.Run.{Event, reading, decideEvent, readings}
 use Rattle.state.specs.Reading.{startOf, beginWith, IsBeginning}
-use Rattle.state.specs.State.{Typed, emptyWitness, modelOf, store}
+use Rattle.state.specs.State.{emptyWitness, modelOf, stored}
 use Rattle.state.specs.declared.Witness.{Witness}
 use Rattle.state.specs.declared.Beginning.{Beginning}
 use Rattle.state.specs.declared.Outcome.the-variants.{Nothing}
 use Rattle.state.specs.declared.Start.the-variants.{Begun, Refused as RefusedHeader}
-use Rattle.witness.specs.Calls.{decided}
+use Rattle.witness.specs.Calls.{eventCall}
 use Rattle.guarantee.specs.Demand3.{witnessAfter, toldOf}
 use Rattle.guarantee.specs.LogRead.{Reads, readOn, readOf, recordsOf, replayed, IsReplay}
 use Rattle.guarantee.specs.declared.Read.{Read}
-use Rattle.state.proofs.Started.{header-name}
+use Rattle.state.proofs.Started.{empty-sound, header-name}
 use Rattle.reader.specs.Many.{lastTold}
-use Rattle.reader.proofs.Runs.{Sound, bytes-left, reading-sound}
+use Rattle.state.specs.Sound.{Sound}
+use Rattle.state.proofs.Kept.{reading-sound}
+use Rattle.model.proofs.Bytes.{drop-bytes}
 use Rattle.reader.proofs.Made.{stays}
-use Rattle.guarantee.proofs.Demand.{Holds, decided-is, start-holds}
+use Rattle.guarantee.proofs.Demand.{Holds, decided-is}
 
 pub holds : (w : Witness) → Sound w → Holds w (modelOf w)
-holds w sound = record { model = refl; typed = sound .typed; good = sound .good }
+holds w sound = record { model = refl; sound = sound }
 
--- a reading, and then the others
-first-read : (t : Answer Told) (k : ℕ) (w : Witness) (s : List ℕ) (es : List Event) → readOn t k w (reading s ∷ es) ≡ readOn (told (decided w s)) (k + 1) (store w (decided w s)) es
+-- reading a record by the call is reading it by the model
+pub decided-here : (w : Witness) → Sound w → (s : List ℕ) → eventCall w (reading s) ≡ decide (modelOf w) s
+unfolding decideEvent
+decided-here w sound s = decided-is w (modelOf w) (holds w sound) (reading s)
+
+-- an event, and then the others
+first-read : (t : Answer Told) (k : ℕ) (w : Witness) (e : Event) (es : List Event) → readOn t k w (e ∷ es) ≡ readOn (eventCall w e .told) (k + 1) (stored w (eventCall w e)) es
 unfolding witnessAfter toldOf lastTold
-first-read t k w s es =
+first-read t k w e es =
     let sum : k + suc (length es) ≡ k + 1 + length es = omega arith in
-    let w′ = store w (decided w s) in
-    λ i. record { last = lastTold (told (decided w s)) (toldOf w′ es); records = sum i; witness = witnessAfter w′ es }
+    let w′ = stored w (eventCall w e) in
+    λ i. record { last = lastTold (eventCall w e .told) (toldOf w′ es); records = sum i; witness = witnessAfter w′ es }
 
 -- one more of the readings of what is left: this record's, and those behind it unless this one stops the reading
 first-reading : (n : ℕ) (s : List ℕ) → 0 < length s → readings (suc n) s ≡ reading s ∷ cond (eqb (recordLength s) 0) [] (readings n (drop (recordLength s) s))
@@ -96,40 +101,40 @@ module _ {whole : Reads} {limit : ℕ} {log : List ℕ} {t : Answer Told} {k : �
   pub log-ended : length log ≤ at → record { last = t; records = k; witness = w } ≡ whole
   log-ended h = all-read (none-left (limit - k) left (omega (arith, length-drop at log)))
 
-  abbrev a : Answer Change
-  a = decide (modelOf w) left
+  abbrev d : Decision
+  d = decide (modelOf w) left
 
   -- the record here
   module _ (inside : at < length log) (below : k < limit) where
     abbrev behind : List Event
     behind = readings (limit - (k + 1)) (drop (recordLength left) left)
 
-    this-record : (b : Bool) → eqb (recordLength left) 0 ≡ b → whole ≡ readOn (told a) (k + 1) (store w a) (cond b [] behind)
+    this-record : (b : Bool) → eqb (recordLength left) 0 ≡ b → whole ≡ readOn (d .told) (k + 1) (stored w d) (cond b [] behind)
     this-record b e =
         let some : limit - k ≡ suc (limit - (k + 1)) = omega arith in
         let later = cond (eqb (recordLength left) 0) [] behind in
-        let same : decided w left ≡ a = decided-is w (modelOf w) (holds w (so .sound)) left in
+        let same : eventCall w (reading left) ≡ d = decided-here w (so .sound) left in
         so .same
         ∙ ap (λ (n : ℕ). rest t k w n log at) some
         ∙ ap (readOn t k w) (first-reading (limit - (k + 1)) left (omega (arith, length-drop at log)))
-        ∙ first-read t k w left later
-        ∙ ap (λ (x : Answer Change). readOn (told x) (k + 1) (store w x) later) same
-        ∙ ap (λ (x : Bool). readOn (told a) (k + 1) (store w a) (cond x [] behind)) e
+        ∙ first-read t k w (reading left) later
+        ∙ ap (λ (x : Decision). readOn (x .told) (k + 1) (stored w x) later) same
+        ∙ ap (λ (x : Bool). readOn (d .told) (k + 1) (stored w d) (cond x [] behind)) e
 
     -- one that is unknown or cut is the last that is read
-    pub stops-here : recordLength left ≡ 0 → record { last = told a; records = k + 1; witness = w } ≡ whole
+    pub stops-here : recordLength left ≡ 0 → record { last = d .told; records = k + 1; witness = w } ≡ whole
     unfolding witnessAfter toldOf lastTold
     stops-here none =
         let sum : k + 1 + 0 ≡ k + 1 = omega arith in
-        sym (this-record true (eq-eqb (recordLength left) 0 none) ∙ (λ i. record { last = told a; records = sum i; witness = stays w (modelOf w) left none i }))
+        sym (this-record true (eq-eqb (recordLength left) 0 none) ∙ (λ i. record { last = d .told; records = sum i; witness = stays w (modelOf w) left none i }))
 
     -- any other is passed
-    pub goes-on : AreBytes log → eqb (recordLength left) 0 ≡ false → Sofar whole limit log (told a) (k + 1) (store w a) (at + recordLength left)
+    pub goes-on : AreBytes log → eqb (recordLength left) 0 ≡ false → Sofar whole limit log (d .told) (k + 1) (stored w d) (at + recordLength left)
     goes-on bytes more =
         record {
-          sound = reading-sound w (so .sound) left (bytes-left at log bytes);
+          sound = reading-sound w (so .sound) left (drop-bytes at log bytes);
           few = omega arith;
-          same = this-record false more ∙ ap (λ s. readOn (told a) (k + 1) (store w a) (readings (limit - (k + 1)) s)) (drop-drop (recordLength left) at log);
+          same = this-record false more ∙ ap (λ s. readOn (d .told) (k + 1) (stored w d) (readings (limit - (k + 1)) s)) (drop-drop (recordLength left) at log);
         }
 
 -- ---- the log's beginning
@@ -143,11 +148,10 @@ module _ (w : Witness) (log : List ℕ) (limit : ℕ) (r : Beginning) (is : IsBe
   unfolding beginWith
   begun-empty e = is .witness ∙ ap (beginWith w) (begun-header e)
 
-  pub begun-sound : r .outcome ≡ Begun → Typed (r .witness) × WellFormed rootHeight (modelOf (r .witness))
+  pub begun-sound : r .outcome ≡ Begun → Sound (r .witness)
   begun-sound e =
       let name = part 5 32 log in
-      let h = start-holds name (header-name log name (begun-header e)) in
-      subst (λ v. Typed v × WellFormed rootHeight (modelOf v)) (sym (begun-empty e)) (h .typed, subst (WellFormed rootHeight) (sym (h .model)) (h .good))
+      subst Sound (sym (begun-empty e)) (empty-sound name (header-name log name (begun-header e)))
 
   pub begun-replay : r .outcome ≡ Begun → (read : Read) → readOf read ≡ readOn (answer nothingLeft) 0 (r .witness) (recordsOf limit log)
       → IsReplay w log limit (record { start = Begun; read = read })

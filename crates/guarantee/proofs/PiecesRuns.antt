@@ -10,25 +10,29 @@ use lib.ListN.{length, drop, length-drop}
 use lib.Seq.{drop-append-le}
 use Rattle.model.specs.Answer.{Answer, answer}
 use Rattle.model.specs.Bytes.{AreBytes}
+use Rattle.model.specs.Change.{Decision}
 use Rattle.model.specs.Log.{header, recordLength}
-use Rattle.model.specs.Model.{Change, start}
+use Rattle.model.specs.Model.{start}
 use Rattle.model.specs.Run.{reading, after, readings}
 use Rattle.model.proofs.Bytes.{drop-bytes}
-use Rattle.state.specs.State.{emptyWitness, modelOf, store}
+use Rattle.state.specs.State.{emptyWitness, modelOf, stored}
 use Rattle.state.specs.declared.Witness.{Witness}
-use Rattle.state.proofs.Started.{header-name}
-use Rattle.reader.proofs.Runs.{Sound, reading-sound}
+use Rattle.state.proofs.Started.{empty-sound, header-name}
+use Rattle.state.specs.Sound.{Sound}
+use Rattle.state.proofs.Kept.{reading-sound}
+use Rattle.state.proofs.Sound.{true-sound}
 use Rattle.reader.proofs.Made.{stays}
-use Rattle.witness.specs.Calls.{decided}
+use Rattle.witness.specs.Calls.{eventCall}
 use Rattle.report.specs.Feed.{Feeding, headed, openCall, feedCall}
 use Rattle.report.specs.Pieces.{Piece}
 use Rattle.report.proofs.Prefix.{left-shorter}
-use Rattle.report.proofs.Pieces.{bytes-before, bytes-behind, bytes-both, empty-sound, opened-is}
+use Rattle.report.proofs.Pieces.{bytes-before, bytes-behind, bytes-both, opened-is}
 use Rattle.guarantee.specs.CallsAreRuns.{firstRecords, behindRecords, Whole, no-record, one-record, Stand, standAfter, feeds, PiecesAreRun}
 use Rattle.guarantee.specs.Demand3.{witnessAfter, Guarantee}
 use Rattle.guarantee.specs.LogRead.{replayed}
-use Rattle.guarantee.proofs.Demand.{good-sound, demand-3}
-use Rattle.guarantee.proofs.FirstRecords.{after-both, first-bytes, decided-here, run-sound, whole-same, behind-same, after-same, whole-both, behind-both, first-both}
+use Rattle.guarantee.proofs.Demand.{demand-3}
+use Rattle.guarantee.proofs.FirstRecords.{after-both, first-bytes, run-sound, whole-same, behind-same, after-same, whole-both, behind-both, first-both}
+use Rattle.guarantee.proofs.Onward.{decided-here}
 use Rattle.guarantee.proofs.FedRuns.{feed-is-run}
 
 abbrev all : List Piece → List ℕ
@@ -49,7 +53,7 @@ module _ (name : List ℕ) (body : List ℕ) where
       let s = t .left ++ p .bytes in
       let f = feedCall (p .room) (t .witness) (t .records) s in
       let s-bytes = bytes-both (t .left) (p .bytes) (so .bytes) p-bytes in
-      let run = feed-is-run (t .witness) (so .sound .typed) (good-sound (t .witness) (so .sound .good)) (p .room) (t .records) s s-bytes in
+      let run = feed-is-run (t .witness) (so .sound .typed) (true-sound (t .witness) (so .sound)) (p .room) (t .records) s s-bytes in
       let k = t .records in
       let j = run .number in
       let here : s ++ later ≡ behindRecords k body = append-assoc (t .left) (p .bytes) later ∙ so .left in
@@ -87,7 +91,7 @@ last-reading w sound (suc n) [] none = refl
 last-reading w sound (suc n) (kind ∷ r) none =
     let s = kind ∷ r in
     sym (stays w (modelOf w) s none)
-    ∙ ap (store w) (sym (decided-here w sound s))
+    ∙ ap (stored w) (sym (decided-here w sound s))
     ∙ ap (λ (b : Bool). witnessAfter w (reading s ∷ cond b [] (readings n (drop (recordLength s) s)))) (sym (eq-eqb (recordLength s) 0 none))
 
 -- where no more can be passed behind the first records, they leave what all readings leave
@@ -101,8 +105,8 @@ all-readings w sound (suc n) (kind ∷ r) bytes few (one-record some later) none
     let s = kind ∷ r in
     let size = recordLength s in
     let more = ne-eqb size 0 some in
-    let left-sound = subst (λ (a : Answer Change). Sound (store w a)) (sym (decided-here w sound s)) (reading-sound w sound s bytes) in
-    all-readings (store w (decided w s)) left-sound n (drop size s) (drop-bytes size s bytes) (omega (arith, left-shorter s more)) later none
+    let left-sound = subst (λ (d : Decision). Sound (stored w d)) (sym (decided-here w sound s)) (reading-sound w sound s bytes) in
+    all-readings (stored w (eventCall w (reading s))) left-sound n (drop size s) (drop-bytes size s bytes) (omega (arith, left-shorter s more)) later none
     ∙ ap (λ (b : Bool). witnessAfter w (reading s ∷ cond b [] (readings n (drop size s)))) (sym more)
 
 pub pieces-are-run : PiecesAreRun

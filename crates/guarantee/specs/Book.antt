@@ -2,17 +2,17 @@
 -- asked of a log is answered by its book; a header that is refused is the answer.
 use Prim.Native.Nat.{ℕ}
 use mathlib.Core.Path.{_≡_}
-use mathlib.Core.List.{List, _++_, map}
-use mathlib.Core.Bool.{cond, not}
-use lib.Dec.{ltb}
-use lib.ListN.{length, drop}
-use Rattle.model.specs.Answer.{Answer, refused, answer, row}
+use mathlib.Core.List.{List}
+use lib.ListN.{length}
+use Rattle.model.specs.Answer.{Answer, refused, answer, andThen}
+use Rattle.model.specs.Buffer.{writeText, bufferAfter}
+use Rattle.model.specs.Change.{Told, nothingLeft}
 use Rattle.model.specs.Checker.{check}
 use Rattle.model.specs.Evidence.{ourList}
-use Rattle.model.specs.Finality.{status, conflicting?}
+use Rattle.model.specs.Finality.{statusAt, conflicting?}
 use Rattle.model.specs.Log.{header}
 use Rattle.model.specs.Model.{Model, start}
-use Rattle.model.specs.Run.{Told, nothingLeft, told, after, outcomes}
+use Rattle.model.specs.Run.{after, outcomes}
 use Rattle.checker.specs.Check.{checkOf}
 use Rattle.evidence.specs.Listed.{listAnswerOf}
 use Rattle.state.specs.Reading.{outcomeOf}
@@ -24,16 +24,12 @@ use Rattle.guarantee.specs.LogRead.{recordsOf}
 abbrev pub book : ℕ → List ℕ → List ℕ → Model
 book limit log name = after (start name) (recordsOf limit log)
 
-unfoldable pub byHeader : {A : Type 0} → Answer (List ℕ) → (List ℕ → Answer A) → Answer A
-byHeader (refused n) answers = refused n
-byHeader (answer name) answers = answers name
-
 abbrev pub onBook : {A : Type 0} → ℕ → List ℕ → (Model → Answer A) → Answer A
-onBook limit log answers = byHeader (header log) (λ name. answers (book limit log name))
+onBook limit log answers = andThen (header log) (λ name. answers (book limit log name))
 
 -- the book's outcome for the last record read
 abbrev pub bookLast : ℕ → List ℕ → List ℕ → Answer Told
-bookLast limit log name = lastTold (answer nothingLeft) (map told (outcomes (start name) (recordsOf limit log)))
+bookLast limit log name = lastTold (answer nothingLeft) (outcomes (start name) (recordsOf limit log))
 
 -- how many records are read: none where the header is refused
 unfoldable pub recordsRead : Answer (List ℕ) → ℕ → List ℕ → ℕ
@@ -44,11 +40,11 @@ recordsRead (answer name) limit log = length (recordsOf limit log)
 -- whether two final checkpoints conflict, the length of our list where the buffer has room for it, and whether a list that
 -- someone handed in passes, with the bonds that it names
 pub record IsAnswers (log : List ℕ) (limit p : ℕ) (list buffer : List ℕ) (r : Answers) : Type 0 where
-  pub last : outcomeOf (r .last) ≡ byHeader (header log) (bookLast limit log)
+  pub last : outcomeOf (r .last) ≡ andThen (header log) (bookLast limit log)
   pub records : r .records ≡ recordsRead (header log) limit log
-  pub status : statusOf (r .status) ≡ onBook limit log (λ b. row 41 (not (ltb p (length (b .checkpoints)))) (answer (status b p)))
+  pub status : statusOf (r .status) ≡ onBook limit log (λ b. statusAt b p)
   pub conflict : conflictOf (r .conflict) ≡ onBook limit log (λ b. answer (conflicting? b))
-  pub ours : listAnswerOf (r .ours) ≡ onBook limit log (λ b. row 60 (ltb (length buffer) (length (ourList b))) (answer (length (ourList b))))
+  pub ours : listAnswerOf (r .ours) ≡ onBook limit log (λ b. writeText (ourList b) buffer)
   pub theirs : checkOf (r .theirs) ≡ onBook limit log (λ b. check b list)
 
 -- the buffer: our list and then what was there; as it was where the header is refused or there is no room
@@ -56,4 +52,4 @@ unfoldable pub bookBuffer : Answer (List ℕ) → ℕ → List ℕ → List ℕ 
 bookBuffer (refused n) limit log buffer = buffer
 bookBuffer (answer name) limit log buffer =
     let list = ourList (book limit log name) in
-    cond (ltb (length buffer) (length list)) buffer (list ++ drop (length list) buffer)
+    bufferAfter list buffer (writeText list buffer)

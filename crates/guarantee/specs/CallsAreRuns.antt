@@ -3,7 +3,7 @@
 -- header's empty one, all of Demand 3 holds of what they leave, wherever they stopped.
 use Prim.Native.Nat.{ℕ, zero, suc, _+_, _≤_, _<_}
 use mathlib.Core.Path.{_≡_}
-use mathlib.Core.List.{List, [], _∷_, _++_, map, flatMap}
+use mathlib.Core.List.{List, [], _∷_, _++_, flatMap}
 use mathlib.Core.Logic.{_⊎_}
 use mathlib.Core.Bool.{Bool, true, false}
 use lib.ListN.{length, drop}
@@ -13,11 +13,13 @@ use Rattle.model.specs.Lists.{All}
 use Rattle.model.specs.Log.{header, recordLength}
 use Rattle.model.specs.Model.{start}
 use Rattle.model.specs.Report.{stoppedLine, outcomeLines}
-use Rattle.model.specs.Run.{Event, reading, OfBytes, told, after, outcomes}
-use Rattle.state.specs.State.{Typed, emptyWitness, modelOf}
+use Rattle.model.specs.Run.{Event, reading, OfBytes, after, outcomes}
+use Rattle.state.specs.Sound.{Typed, sound?}
+use Rattle.state.specs.State.{emptyWitness, modelOf, stored}
 use Rattle.state.specs.declared.Witness.{Witness}
 use Rattle.reader.specs.Many.{rowsUsed, endedBy, Many}
-use Rattle.witness.specs.Calls.{sound?, decided, manyCall}
+use Rattle.witness.specs.Calls.{eventCall}
+use Rattle.witness.specs.Readings.{manyCall}
 use Rattle.report.specs.Feed.{Paused, wants, full, outOfNumbers, ended, refusedBy, Feeding, pausedAt, lineRoom, lastNumber, openCall, feedCall, endCall}
 use Rattle.report.specs.Pieces.{Piece}
 use Rattle.guarantee.specs.Demand3.{witnessAfter, toldOf, Guarantee}
@@ -53,7 +55,7 @@ pub record ManyRun (n : ℕ) (w : Witness) (log : List ℕ) (at : ℕ) (m : Many
   pub at-most : length (m .passed) ≤ n
   pub rows-used : length (m .passed) ≡ n → m .end ≡ rowsUsed
   pub ended-early : length (m .passed) < n
-      → (recordLength (drop (m .next) log) ≡ 0) × (m .end ≡ endedBy (told (decided (m .witness) (drop (m .next) log))))
+      → (recordLength (drop (m .next) log) ≡ 0) × (m .end ≡ endedBy (eventCall (m .witness) (reading (drop (m .next) log)) .told))
 
 abbrev pub ManyIsRun : Type 0
 ManyIsRun = (w : Witness) → Typed w → sound? w ≡ true → (n : ℕ) (log : List ℕ) → AreBytes log → (at : ℕ) → ManyRun n w log at (manyCall n w log at)
@@ -71,10 +73,10 @@ stopLine (refusedBy n) k = []
 -- why `feed` paused, with so much room, where `rest` stands behind the records that it passed: nothing is left or a record is
 -- cut; no line fits behind the text; no number is left; or the kind is unknown. Row 40 does not apply.
 abbrev pub Cause : Paused → ℕ → Feeding → List ℕ → Type 0
-Cause wants room f rest = (rest ≡ []) ⊎ (decided (f .witness) rest ≡ refused 5)
+Cause wants room f rest = (rest ≡ []) ⊎ (eventCall (f .witness) (reading rest) .told ≡ refused 5)
 Cause full room f rest = room < length (f .text) + lineRoom
 Cause outOfNumbers room f rest = f .records ≡ lastNumber
-Cause ended room f rest = decided (f .witness) rest ≡ refused 4
+Cause ended room f rest = eventCall (f .witness) (reading rest) .told ≡ refused 4
 Cause (refusedBy n) room f rest = ⊥
 
 -- `f` is what the call gives, with so much room, on the bytes s from record k on: the run over the records that it passed, their
@@ -94,8 +96,10 @@ FeedIsRun = (w : Witness) → Typed w → sound? w ≡ true → (room k : ℕ) (
 
 -- ---- calls that leave the witness handed in
 
--- `close`; `open` on a header that is refused; and every call on a state that is not sound, which does nothing but say so
+-- an event that is refused; `close`; `open` on a header that is refused; and every call on a state that is not sound, which does
+-- nothing but say so
 pub record WitnessKept (w : Witness) : Type 0 where
+  pub refused-keeps : (e : Event) (n : ℕ) → eventCall w e .told ≡ refused n → stored w (eventCall w e) ≡ w
   pub close-keeps : (room k left : ℕ) → endCall room w k left .witness ≡ w
   pub open-keeps : (last : Bool) (room : ℕ) (log : List ℕ) (n : ℕ) → header log ≡ refused n → openCall last room w log .witness ≡ w
   pub feed-unsound : sound? w ≡ false → (room k : ℕ) (s : List ℕ) → feedCall room w k s ≡ pausedAt [] (refusedBy 40) w k
@@ -112,7 +116,7 @@ CallsKeep = (w : Witness) → WitnessKept w
 pub record RunOn (name : List ℕ) (before es : List Event) : Type 0 where
   pub typed : Typed (witnessAfter (emptyWitness name) before)
   pub sound : sound? (witnessAfter (emptyWitness name) before) ≡ true
-  pub outcomes-agree : toldOf (witnessAfter (emptyWitness name) before) es ≡ map told (outcomes (after (start name) before) es)
+  pub outcomes-agree : toldOf (witnessAfter (emptyWitness name) before) es ≡ outcomes (after (start name) before) es
   pub guarantee : Guarantee name (before ++ es) (witnessAfter (witnessAfter (emptyWitness name) before) es) (after (start name) (before ++ es))
 
 abbrev pub RunGoesOn : Type 0

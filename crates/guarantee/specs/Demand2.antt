@@ -3,39 +3,38 @@
 -- exact fields say of the model what those answers mean. `Typed` is what the types of the state's fields say.
 use Prim.Native.Nat.{ℕ}
 use mathlib.Core.Path.{_≡_}
-use mathlib.Core.List.{List, _++_}
-use mathlib.Core.Bool.{true, cond, not, _&&_}
-use lib.Dec.{ltb}
-use lib.ListN.{length, drop}
-use Rattle.model.specs.Answer.{answer, row}
+use mathlib.Core.List.{List}
+use mathlib.Core.Bool.{true}
+use Rattle.model.specs.Answer.{answer}
+use Rattle.model.specs.Buffer.{writeText, bufferAfter}
 use Rattle.model.specs.Bytes.{AreBytes}
 use Rattle.model.specs.Checker.{check}
 use Rattle.model.specs.Evidence.{ourList, violator?}
 use Rattle.model.specs.Exact.{StatusExact, ConflictExact, ConductExact, ListExact, CheckerExact}
-use Rattle.model.specs.Finality.{status, conflicting?}
+use Rattle.model.specs.Finality.{statusAt, conflicting?}
 use Rattle.model.specs.Model.{Model}
-use Rattle.model.specs.Support.{support, sum}
+use Rattle.model.specs.Support.{supportAt, sum}
 use Rattle.safety.specs.Share.{NamesViolators}
-use Rattle.state.specs.State.{Typed, modelOf}
+use Rattle.state.specs.Sound.{Typed, sound?}
+use Rattle.state.specs.State.{modelOf}
 use Rattle.state.specs.declared.Witness.{Witness}
-use Rattle.witness.specs.Calls.{sound?, statusCall, supportCall, conflictCall, listCall, listBuffer, checkCall}
+use Rattle.witness.specs.Calls.{statusCall, supportCall, conflictCall, writeCall, writeBuffer, checkCall}
 
 -- every call on `w` answers for the model `b`
 pub record ByTheRules (w : Witness) (b : Model) : Type 0 where
   -- "the members, checkpoints and votes held are the book's, in its order"
   pub held : modelOf w ≡ b
   -- the standings: the call's answer, and what it means
-  pub status-answer : (p : ℕ) → statusCall w p ≡ row 41 (not (ltb p (length (b .checkpoints)))) (answer (status b p))
+  pub status-answer : (p : ℕ) → statusCall w p ≡ statusAt b p
   pub status-exact : (p : ℕ) → StatusExact b p
   -- the support of a link
-  pub support-answer : (s t : ℕ) → supportCall w s t ≡ row 41 (not (ltb s (length (b .checkpoints)) && ltb t (length (b .checkpoints)))) (answer (support b s t))
+  pub support-answer : (s t : ℕ) → supportCall w s t ≡ supportAt b s t
   -- the conflict answer
   pub conflict-answer : conflictCall w ≡ answer (conflicting? b)
   pub conflict-exact : ConflictExact b
   -- our list: written, whatever the buffer, unless 60 applies, which leaves the buffer; it is what the section on charges calls for
-  pub list-answer : (buffer : List ℕ) → listCall w buffer ≡ row 60 (ltb (length buffer) (length (ourList b))) (answer (length (ourList b)))
-  pub list-written : (buffer : List ℕ)
-      → listBuffer w buffer (listCall w buffer) ≡ cond (ltb (length buffer) (length (ourList b))) buffer (ourList b ++ drop (length (ourList b)) buffer)
+  pub list-answer : (buffer : List ℕ) → writeCall ourList w buffer ≡ writeText (ourList b) buffer
+  pub list-written : (buffer : List ℕ) → writeBuffer ourList w buffer ≡ bufferAfter (ourList b) buffer (writeText (ourList b) buffer)
   pub list-exact : ListExact b
   -- "of all lists of charges, whoever wrote them, the checker passes exactly those .."; "so none that names a member whose
   -- votes keep both commandments"

@@ -4,34 +4,35 @@
 -- the bytes read only.
 use Prim.Native.Nat.{ℕ}
 use mathlib.Core.Path.{_≡_}
-use mathlib.Core.List.{List, [], _∷_, map}
+use mathlib.Core.List.{List, [], _∷_}
 use lib.ListN.{length}
 use Rattle.model.specs.Answer.{Answer}
+use Rattle.model.specs.Change.{Told}
 use Rattle.model.specs.Finality.{ConflictingFinals}
 use Rattle.model.specs.Lists.{All}
 use Rattle.model.specs.Model.{Model, start}
-use Rattle.model.specs.Run.{Event, reading, OfBytes, Told, told, after, outcomes}
+use Rattle.model.specs.Run.{Event, OfBytes, after, outcomes}
 use Rattle.safety.specs.Share.{ShareNamed}
-use Rattle.state.specs.State.{emptyWitness, store}
+use Rattle.state.specs.State.{emptyWitness, stored}
 use Rattle.state.specs.declared.Witness.{Witness}
-use Rattle.witness.specs.Calls.{decided}
+use Rattle.witness.specs.Calls.{eventCall}
 use Rattle.guarantee.specs.Demand2.{ByTheRules}
 
--- the witness after the readings: each takes the state that the last one left (the witness of the call `read`)
+-- the witness after the events: each call takes the state that the last one left (for a reading, the call `read`)
 unfoldable pub witnessAfter : Witness → List Event → Witness
 witnessAfter w [] = w
-witnessAfter w (reading s ∷ es) = witnessAfter (store w (decided w s)) es
+witnessAfter w (e ∷ es) = witnessAfter (stored w (eventCall w e)) es
 
--- what the call `read` told of each
+-- what the calls told of each
 unfoldable pub toldOf : Witness → List Event → List (Answer Told)
 toldOf w [] = []
-toldOf w (reading s ∷ es) = told (decided w s) ∷ toldOf (store w (decided w s)) es
+toldOf w (e ∷ es) = eventCall w e .told ∷ toldOf (stored w (eventCall w e)) es
 
 -- `w` is the witness and `b` the model after the run, as Demand3 below, LogIsRun in LogRead.antt, and PiecesRun and RunOn in
 -- CallsAreRuns.antt have them
 pub record Guarantee (name : List ℕ) (es : List Event) (w : Witness) (b : Model) : Type 0 where
   -- "each record was taken, or refused with the same number"; 40 never occurs, as the book has no such row
-  pub outcomes-agree : toldOf (emptyWitness name) es ≡ map told (outcomes (start name) es)
+  pub outcomes-agree : toldOf (emptyWitness name) es ≡ outcomes (start name) es
   -- the held lists, the standings, the support, the conflict answer, our list and the checker: the fields of ByTheRules
   pub answers : ByTheRules w b
   -- "If two conflicting checkpoints are final by the book, our list passes .. and names at least a third of all bonds."

@@ -6,10 +6,11 @@ use mathlib.Core.List.{List}
 use lib.ListN.{length, drop}
 use Rattle.model.specs.Answer.{Answer, refused, answer}
 use Rattle.model.specs.Bytes.{AreBytes, part}
+use Rattle.model.specs.Change.{Told, nothingLeft}
 use Rattle.model.specs.Lists.{All}
 use Rattle.model.specs.Log.{header}
 use Rattle.model.specs.Model.{start}
-use Rattle.model.specs.Run.{Event, OfBytes, Told, nothingLeft, after, readings}
+use Rattle.model.specs.Run.{Event, OfBytes, after, readings}
 use Rattle.state.specs.State.{emptyWitness}
 use Rattle.state.specs.Reading.{outcomeOf, startOf}
 use Rattle.state.specs.declared.Witness.{Witness}

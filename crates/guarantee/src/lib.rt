@@ -12,11 +12,10 @@ ghost use mathlib.Core.Path.{_≡_};
 ghost use Prim.Native.Nat.{_≤_, _<_};
 ghost use lib.ListN.{drop};
 ghost use Rattle.model.specs.Answer.{answer};
-ghost use Rattle.model.specs.Limits.{rootHeight};
-ghost use Rattle.model.specs.Run.{nothingLeft, readings};
+ghost use Rattle.model.specs.Change.{nothingLeft};
+ghost use Rattle.model.specs.Run.{readings};
 ghost use Rattle.model.specs.Log.{header};
-ghost use Rattle.model.specs.WellFormed.{WellFormed};
-ghost use Rattle.state.specs.State.{Typed, modelOf};
+ghost use Rattle.state.specs.Sound.{Sound};
 ghost use Rattle.guarantee.specs.Book.{IsAnswers, bookBuffer};
 ghost use Rattle.guarantee.specs.LogRead.{readOf, readOn, IsReplay};
 
@@ -42,7 +41,7 @@ fn batch(most: u64) -> usize
 // which reading does not pass. They are read in batches; one with rows left over, short of the log's end,
 // stopped at such a record.
 fn read_rest(w: Witness, log: &[u8], from: usize, limit: u64) -> Read
-    requires { ⌜ Typed w × WellFormed rootHeight (modelOf w) ⌝ }
+    requires { ⌜ Sound w ⌝ }
     ensures { λ r. ⌜ readOf r ≡ readOn (answer nothingLeft) 0 w (readings limit (drop from (now (log .entry)))) ⌝ }
 {
     let mut held = w;

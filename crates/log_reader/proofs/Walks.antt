@@ -1,5 +1,4 @@
--- What the functions over the log reader ask of a witness, what reading on from an offset of a log comes to, and the reader's
--- type behind a `&mut`.
+-- What reading on from an offset of a log comes to, and the reader's type behind a `&mut`.
 use Prim.Native.Nat.{ℕ}
 use mathlib.Core.List.{List}
 use lib.ListN.{length}
@@ -7,16 +6,10 @@ use mir.Syntax.{named}
 use base.Fml.{Lft}
 use denote.RattleType.{RattleType}
 use denote.Ref.{NamedLft}
-use Rattle.model.specs.Limits.{rootHeight}
-use Rattle.model.specs.WellFormed.{WellFormed}
-use Rattle.state.specs.State.{Typed, modelOf}
 use Rattle.state.specs.declared.Witness.{Witness}
 use Rattle.reader.specs.Many.{readMany, IsBatch}
 use Rattle.reader.specs.declared.Batch.{Batch}
 use Rattle.log_reader.proofs.LogReader as T
-
-abbrev pub Asked : Witness → Type 0
-Asked w = Typed w × WellFormed rootHeight (modelOf w)
 
 -- so many records as there are rows: the rows before and after
 abbrev pub Found : Witness → List ℕ → ℕ → List ℕ → Batch → List ℕ → Type 0

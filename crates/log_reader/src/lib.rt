@@ -10,9 +10,8 @@ ghost use Prim.Native.Nat.{_+_};
 ghost use lib.ListN.{length, drop};
 ghost use Rattle.model.specs.Decide.{decide};
 ghost use Rattle.model.specs.Log.{recordLength};
-ghost use Rattle.model.specs.Limits.{rootHeight};
-ghost use Rattle.model.specs.WellFormed.{WellFormed};
-ghost use Rattle.state.specs.State.{Typed, modelOf};
+ghost use Rattle.state.specs.State.{modelOf};
+ghost use Rattle.state.specs.Sound.{Sound};
 ghost use Rattle.state.specs.Reading.{IsReading};
 ghost use Rattle.reader.specs.Many.{readMany, IsBatch};
 
@@ -32,7 +31,7 @@ pub fn new<'a>(log: &'a [u8], at: usize) -> LogReader<'a>
 // The records from the reader's offset on, into a sound witness, as many as there are rows lent. The reader is lent
 // too, and is moved on to the offset reached: the next call with it starts where this one ended.
 pub fn read_on<'s, 'a>(r: &'s mut LogReader<'a>, w: Witness, rows: &mut [u8]) -> Batch
-    requires { ⌜ Typed w × WellFormed rootHeight (modelOf w) ⌝ }
+    requires { ⌜ Sound w ⌝ }
     ensures { λ b. ⌜
         IsBatch
         (readMany (length (now (rows .entry))) w (now (now (r .entry) .log)) (now (r .entry) .at))
@@ -52,7 +51,7 @@ pub fn read_on<'s, 'a>(r: &'s mut LogReader<'a>, w: Witness, rows: &mut [u8]) ->
 // The same from an offset of a log: a reader is made there, and read on with. It is not handed back, since the batch
 // has the offset reached.
 pub fn read_from(w: Witness, log: &[u8], at: usize, rows: &mut [u8]) -> Batch
-    requires { ⌜ Typed w × WellFormed rootHeight (modelOf w) ⌝ }
+    requires { ⌜ Sound w ⌝ }
     ensures { λ b. ⌜
         IsBatch
         (readMany (length (now (rows .entry))) w (now (log .entry)) at)
@@ -68,7 +67,7 @@ pub fn read_from(w: Witness, log: &[u8], at: usize, rows: &mut [u8]) -> Batch
 // The record at `from`, into a sound witness: reading on where one row is lent. Where the row was not used, the outcome
 // is what ended the reading.
 pub fn read_record(w: Witness, log: &[u8], from: usize) -> Reading
-    requires { ⌜ Typed w × WellFormed rootHeight (modelOf w) ⌝ }
+    requires { ⌜ Sound w ⌝ }
     ensures { λ r. ⌜
         IsReading w
         (decide (modelOf w) (drop from (now (log .entry))))

@@ -6,22 +6,24 @@ use mathlib.Core.Path.{_≡_, refl}
 use mathlib.Core.List.{List, [], _∷_, _++_, flatMap}
 use mathlib.Core.Bool.{true, false}
 use lib.ListN.{length, take, replicate}
-use Rattle.model.specs.Answer.{refused, answer, row}
+use Rattle.model.specs.Answer.{refused, answer, row, andThen}
+use Rattle.model.specs.Buffer.{writeText, bufferAfter}
 use Rattle.model.specs.Bytes.{beOf, beBytes, field, ascii}
 use Rattle.model.specs.Checker.{check, checkFrom, entries, ownVote?}
-use Rattle.model.specs.Decide.{decide, decideRecord, decideMember, decideCheckpoint, decideVote, decidePlaces, heightsAgree, bondOutOfRange, membersFixed, idHeld, nameHeld}
+use Rattle.model.specs.Change.{addMember, addCheckpoint, addVote, append, appendAll, single, nothingLeft, taken}
+use Rattle.model.specs.Decide.{decide, decideRecord, decideMember, decideCheckpoint, voteBetween, voteOf, room, decideVote, heightsAgree, bondOutOfRange, membersFixed}
 use Rattle.model.specs.Evidence.{ourList, charges, chargeOf, conduct, conductFrom, broken?, violator?, byId, insertById, listBytes, entryBytes, bondOf}
-use Rattle.model.specs.Finality.{justifiedMarks, justified?, final?, status, conflicting?}
-use Rattle.model.specs.Limits.{rootHeight}
-use Rattle.model.specs.Lists.{allOf, any, anyBelow, allBelow, pairBelow, firstIndex, sameBytes, tabulate}
-use Rattle.model.specs.Log.{header, recordSize, recordLength, decode, decodeWhole}
-use Rattle.model.specs.Model.{Model, Member, Checkpoint, Vote, nothing, addMember, addCheckpoint, addVote, start, append, apply, memberAt, checkpointAt, voteAt, memberIndex, placeOf, voteHeld}
+use Rattle.model.specs.Finality.{justifiedMarks, justified?, final?, status, statusAt, conflicting?}
+use Rattle.model.specs.Lists.{any, anyBelow, allBelow, pairBelow, firstIndex, sameBytes, tabulate}
+use Rattle.model.specs.Log.{header, kindOf, sizeOf, decodeAs, recordSize, recordLength, decode}
+use Rattle.model.specs.Model.{Model, Member, Checkpoint, Vote, start, memberAt, checkpointAt, voteAt, memberIndex, placeOf, idHeld, nameHeld, voteHeld}
 use Rattle.model.specs.Report.{report, reportBody, reportRun, summary, outcomeLines, outcomeLine, stops?, refusedLine, stoppedLine, checkpointLines, checkpointLine, checkpointText, statusText, memberLine, memberText, conductText, totalLine, totalText, yesNo, decimal, digits, newline}
 use Rattle.model.specs.Run.{after, decideEvent, outcomes, readings}
-use Rattle.model.specs.Slashing.{breaks?, doubleVote?, surroundVote?}
-use Rattle.model.specs.Support.{count, sum, quorum, support, supports, link?}
+use Rattle.model.specs.Slashing.{breaks?}
+use Rattle.model.specs.Support.{count, sum, quorum, carries, support, supportAt, supports, link?}
 use Rattle.model.specs.Tree.{child?, reached?, ancestor?, conflict?}
-use Rattle.model.specs.WellFormed.{wellFormed?, bonds?, tree?, vote?, votes?, idTwice?, nameTwice?, voteTwice?}
+use Rattle.model.specs.declared.Status.the-variants.{Justified as JustifiedStatus}
+use Rattle.model.specs.WellFormed.{wellFormed?, counts?, members?, bonds?, tree?, steps?, vote?, votes?, idTwice?, nameTwice?, voteTwice?}
 
 -- a name of one letter, repeated
 abbrev name : String → List ℕ
@@ -103,10 +105,10 @@ pub record MarkedCases : Type 0 where
   three-of-four : quorum 3 4 ≡ true
   sixty-six-of-hundred : quorum 66 100 ≡ false
   sixty-seven-of-hundred : quorum 67 100 ≡ true
-  surround : breaks? chain (along 0 3) (along 1 2) ≡ true
-  same-source : breaks? chain (along 0 3) (along 0 2) ≡ false
-  crossing : breaks? chain (along 1 3) (along 0 2) ≡ false
-  following : breaks? chain (along 0 1) (along 1 2) ≡ false
+  surround : breaks? (held [] chain []) (along 0 3) (along 1 2) ≡ true
+  same-source : breaks? (held [] chain []) (along 0 3) (along 0 2) ≡ false
+  crossing : breaks? (held [] chain []) (along 1 3) (along 0 2) ≡ false
+  following : breaks? (held [] chain []) (along 0 1) (along 1 2) ≡ false
 
 -- ---- what shuts out plausible and wrong versions
 
@@ -163,13 +165,13 @@ pub record WrongVersions : Type 0 where
       ++ line "member 65535 bond 7 broken 2 3"
       ++ line "total 1000000000017 named 17 conflict no"
   -- two votes from different sources for one target break the first condition
-  one-target : breaks? chain (along 0 3) (along 1 3) ≡ true
+  one-target : breaks? (held [] chain []) (along 0 3) (along 1 3) ≡ true
   -- each supporter is counted once, with its bond
   supporters :
       support (after (start (name "R")) (readings 400 (unequal ++ line4 ++ vote 300 "R" 0 "A" 1 ++ vote 0 "R" 0 "A" 1))) 0 1
       ≡ record { number = 2; bonds = 1000000000010; yes? = true }
   -- at the log's end no record is left, and nothing is refused
-  nothing-left : decide session [] ≡ answer nothing
+  nothing-left : decide session [] ≡ record { told = answer nothingLeft; changes = [] }
   -- the checker passes lists that are not ours
   empty-list : check session (list (0 ∷ [])) ≡ answer 0
   other-pair : check session (list (1 ∷ 2 ∷ 3 ∷ 6 ∷ [])) ≡ answer 1
@@ -190,7 +192,7 @@ filled checkpoints votes =
 abbrev rootAlone : ℕ → Model
 rootAlone members = record { members = tabulate members (λ i. record { id = i; bond = 1 }); checkpoints = start (name "R") .checkpoints; votes = [] }
 
--- Each row with its number where it applies, and where a later row would apply too. Rows 41 and 60 are a call's alone.
+-- Each row with its number where it applies, and where a later row would apply too.
 pub record RowCases : Type 0 where
   row-1 : header [] ≡ refused 1
   row-1-short : header (take 36 headerBytes) ≡ refused 1
@@ -202,53 +204,57 @@ pub record RowCases : Type 0 where
   -- the refused lines stay, and nothing after the unknown kind is read
   row-4 : report (headerBytes ++ member 1 0 ++ 9 ∷ []) ≡ line "refused 0 number 11" ++ line "stopped 4 record 1"
   row-4-ends : report (headerBytes ++ member 1 1 ++ 9 ∷ member 1 0) ≡ line "stopped 4 record 1"
-  row-4-zero : decide session (0 ∷ []) ≡ refused 4
-  row-4-four : decide session (4 ∷ replicate 100 0) ≡ refused 4
+  row-4-zero : decide session (0 ∷ []) ≡ record { told = refused 4; changes = [] }
+  row-4-four : decide session (4 ∷ replicate 100 0) ≡ single (refused 4)
   row-5 : report (headerBytes ++ 3 ∷ replicate 10 0) ≡ line "stopped 5 record 0"
-  row-5-kind : decide session (1 ∷ []) ≡ refused 5
-  row-5-member : decide session (take 10 (member 9 1)) ≡ refused 5
-  row-5-checkpoint : decide session (take 64 (checkpoint "E" "A")) ≡ refused 5
-  row-5-vote : decide session (take 74 (vote 1 "R" 0 "C" 2)) ≡ refused 5
-  row-10 : decide session (member 1 0) ≡ refused 10
-  row-10-checkpoint : decide (filled 1 0) (member 9 1) ≡ refused 10
-  row-11 : decide (rootAlone 2) (member 1 0) ≡ refused 11
-  row-11-above : decide (rootAlone 0) (member 9 1000000000001) ≡ refused 11
-  row-11-limit : decide (rootAlone 0) (member 9 1000000000000) ≡ answer (addMember (record { id = 9; bond = 1000000000000 }))
-  row-12 : decide (rootAlone 128) (member 1 1) ≡ refused 12
-  row-13 : decide (rootAlone 128) (member 128 1) ≡ refused 13
-  row-13-room : decide (rootAlone 127) (member 128 1) ≡ answer (addMember (record { id = 128; bond = 1 }))
-  row-20 : decide session (checkpoint "R" "Z") ≡ refused 20
-  row-20-full : decide (filled 511 0) (checkpoint "A" "R") ≡ refused 20
-  row-21 : decide (filled 511 0) (checkpoint "Z" "Z") ≡ refused 21
-  row-22 : decide (filled 511 0) (checkpoint "B" "R") ≡ refused 22
-  row-22-room : decide (filled 510 0) (checkpoint "B" "R") ≡ answer (addCheckpoint (record { name = name "B"; parent = 0; height = 1 }))
-  row-30 : decide session (vote 9 "Y" 7 "Z" 7) ≡ refused 30
-  row-31 : decide session (vote 1 "Y" 7 "Z" 7) ≡ refused 31
-  row-32 : decide session (vote 1 "R" 7 "Z" 7) ≡ refused 32
-  row-33 : decide session (vote 1 "R" 0 "R" 1) ≡ refused 33
-  row-33-source : decide session (vote 1 "R" 1 "A" 1) ≡ refused 33
-  row-34 : decide session (vote 1 "R" 0 "R" 0) ≡ refused 34
-  row-34-branch : decide session (vote 1 "A" 1 "D" 2) ≡ refused 34
-  row-35 : decide session (vote 3 "B" 1 "D" 2) ≡ refused 35
-  row-35-full : decide (filled 1 4096) (vote 2 "R" 0 "A" 1) ≡ refused 35
-  row-36 : decide (filled 1 4096) (vote 1 "R" 0 "A" 1) ≡ refused 36
-  row-36-room : decide (filled 1 4095) (vote 1 "R" 0 "A" 1) ≡ answer (addVote (record { voter = 1; source = 0; target = 1 }))
-  row-40 : wellFormed? rootHeight (rootAlone 129) ≡ false
-  row-40-room : wellFormed? rootHeight (rootAlone 128) ≡ true
-  row-40-session : wellFormed? rootHeight session ≡ true
-  row-40-small : wellFormed? rootHeight (held (firm 1 1 ∷ []) chain (along 0 1 ∷ [])) ≡ true
-  row-40-no-root : wellFormed? rootHeight (held [] [] []) ≡ false
-  row-40-no-bond : wellFormed? rootHeight (held (firm 1 0 ∷ []) chain []) ≡ false
-  row-40-bond-above : wellFormed? rootHeight (held (firm 1 1000000000001 ∷ []) chain []) ≡ false
-  row-40-root-height : wellFormed? rootHeight (held [] (page "R" 0 1 ∷ []) []) ≡ false
-  row-40-parent : wellFormed? rootHeight (held [] (page "R" 0 0 ∷ page "A" 2 2 ∷ page "B" 0 1 ∷ []) []) ≡ false
-  row-40-height : wellFormed? rootHeight (held [] (page "R" 0 0 ∷ page "A" 0 2 ∷ []) []) ≡ false
-  row-40-stranger : wellFormed? rootHeight (held (firm 2 1 ∷ []) chain (along 0 1 ∷ [])) ≡ false
-  row-40-place : wellFormed? rootHeight (held (firm 1 1 ∷ []) chain (along 0 4 ∷ [])) ≡ false
-  row-40-no-ancestor : wellFormed? rootHeight (held (firm 1 1 ∷ []) chain (along 2 1 ∷ [])) ≡ false
-  row-40-id-twice : wellFormed? rootHeight (held (firm 1 1 ∷ firm 1 2 ∷ []) chain []) ≡ false
-  row-40-name-twice : wellFormed? rootHeight (held [] (page "R" 0 0 ∷ page "R" 0 1 ∷ []) []) ≡ false
-  row-40-vote-twice : wellFormed? rootHeight (held (firm 1 1 ∷ []) chain (along 0 1 ∷ along 0 1 ∷ [])) ≡ false
+  row-5-kind : decide session (1 ∷ []) ≡ single (refused 5)
+  row-5-member : decide session (take 10 (member 9 1)) ≡ single (refused 5)
+  row-5-checkpoint : decide session (take 64 (checkpoint "E" "A")) ≡ single (refused 5)
+  row-5-vote : decide session (take 74 (vote 1 "R" 0 "C" 2)) ≡ single (refused 5)
+  row-10 : decide session (member 1 0) ≡ single (refused 10)
+  row-10-checkpoint : decide (filled 1 0) (member 9 1) ≡ single (refused 10)
+  row-11 : decide (rootAlone 2) (member 1 0) ≡ single (refused 11)
+  row-11-above : decide (rootAlone 0) (member 9 1000000000001) ≡ single (refused 11)
+  row-11-limit : decide (rootAlone 0) (member 9 1000000000000) ≡ single (answer (addMember (record { id = 9; bond = 1000000000000 })))
+  row-12 : decide (rootAlone 128) (member 1 1) ≡ single (refused 12)
+  row-13 : decide (rootAlone 128) (member 128 1) ≡ single (refused 13)
+  row-13-room : decide (rootAlone 127) (member 128 1) ≡ record { told = answer taken; changes = addMember (record { id = 128; bond = 1 }) ∷ [] }
+  row-20 : decide session (checkpoint "R" "Z") ≡ single (refused 20)
+  row-20-full : decide (filled 511 0) (checkpoint "A" "R") ≡ single (refused 20)
+  row-21 : decide (filled 511 0) (checkpoint "Z" "Z") ≡ single (refused 21)
+  row-22 : decide (filled 511 0) (checkpoint "B" "R") ≡ single (refused 22)
+  row-22-room : decide (filled 510 0) (checkpoint "B" "R") ≡ single (answer (addCheckpoint (record { name = name "B"; parent = 0; height = 1 })))
+  row-30 : decide session (vote 9 "Y" 7 "Z" 7) ≡ single (refused 30)
+  row-31 : decide session (vote 1 "Y" 7 "Z" 7) ≡ single (refused 31)
+  row-32 : decide session (vote 1 "R" 7 "Z" 7) ≡ single (refused 32)
+  row-33 : decide session (vote 1 "R" 0 "R" 1) ≡ single (refused 33)
+  row-33-source : decide session (vote 1 "R" 1 "A" 1) ≡ single (refused 33)
+  row-34 : decide session (vote 1 "R" 0 "R" 0) ≡ single (refused 34)
+  row-34-branch : decide session (vote 1 "A" 1 "D" 2) ≡ single (refused 34)
+  row-35 : decide session (vote 3 "B" 1 "D" 2) ≡ single (refused 35)
+  row-35-full : decide (filled 1 4096) (vote 2 "R" 0 "A" 1) ≡ single (refused 35)
+  row-36 : decide (filled 1 4096) (vote 1 "R" 0 "A" 1) ≡ single (refused 36)
+  row-36-room : decide (filled 1 4095) (vote 1 "R" 0 "A" 1) ≡ single (answer (addVote (record { voter = 1; source = 0; target = 1 })))
+  row-40 : wellFormed? (rootAlone 129) ≡ false
+  row-40-room : wellFormed? (rootAlone 128) ≡ true
+  row-40-session : wellFormed? session ≡ true
+  row-40-small : wellFormed? (held (firm 1 1 ∷ []) chain (along 0 1 ∷ [])) ≡ true
+  row-40-no-root : wellFormed? (held [] [] []) ≡ false
+  row-40-no-bond : wellFormed? (held (firm 1 0 ∷ []) chain []) ≡ false
+  row-40-bond-above : wellFormed? (held (firm 1 1000000000001 ∷ []) chain []) ≡ false
+  row-40-root-height : wellFormed? (held [] (page "R" 0 1 ∷ []) []) ≡ false
+  row-40-parent : wellFormed? (held [] (page "R" 0 0 ∷ page "A" 2 2 ∷ page "B" 0 1 ∷ []) []) ≡ false
+  row-40-height : wellFormed? (held [] (page "R" 0 0 ∷ page "A" 0 2 ∷ []) []) ≡ false
+  row-40-stranger : wellFormed? (held (firm 2 1 ∷ []) chain (along 0 1 ∷ [])) ≡ false
+  row-40-place : wellFormed? (held (firm 1 1 ∷ []) chain (along 0 4 ∷ [])) ≡ false
+  row-40-no-ancestor : wellFormed? (held (firm 1 1 ∷ []) chain (along 2 1 ∷ [])) ≡ false
+  row-40-id-twice : wellFormed? (held (firm 1 1 ∷ firm 1 2 ∷ []) chain []) ≡ false
+  row-40-name-twice : wellFormed? (held [] (page "R" 0 0 ∷ page "R" 0 1 ∷ []) []) ≡ false
+  row-40-vote-twice : wellFormed? (held (firm 1 1 ∷ []) chain (along 0 1 ∷ along 0 1 ∷ [])) ≡ false
+  row-41 : statusAt session 5 ≡ refused 41
+  row-41-last : statusAt session 4 ≡ answer JustifiedStatus
+  row-41-source : supportAt session 5 1 ≡ refused 41
+  row-41-target : supportAt session 0 5 ≡ refused 41
   row-50 : check session (take 6 (ourList session)) ≡ refused 50
   row-50-first : check session (ascii "FFW" ++ beBytes 2 0 ++ beBytes 2 1) ≡ refused 50
   row-50-more : check session (ourList session ++ 0 ∷ []) ≡ refused 50
@@ -260,15 +266,19 @@ pub record RowCases : Type 0 where
   row-55-other : check session (list (1 ∷ 2 ∷ 5 ∷ 4 ∷ [])) ≡ refused 55
   row-56 : check session (list (1 ∷ 2 ∷ 4 ∷ 4 ∷ [])) ≡ refused 56
   row-57 : check session (list (1 ∷ 1 ∷ 0 ∷ 2 ∷ [])) ≡ refused 57
+  row-60 : writeText (ourList session) (replicate 12 0) ≡ refused 60
+  row-60-unwritten : bufferAfter (ourList session) (9 ∷ 8 ∷ 7 ∷ []) (refused 60) ≡ 9 ∷ 8 ∷ 7 ∷ []
+  row-60-written : bufferAfter (1 ∷ 2 ∷ []) (9 ∷ 8 ∷ 7 ∷ 6 ∷ []) (answer 2) ≡ 1 ∷ 2 ∷ 7 ∷ 6 ∷ []
+  row-60-room : writeText (ourList session) (replicate 13 0) ≡ answer 13
 
 pub cases : MarkedCases × WrongVersions × RowCases
 unfolding
-    row allOf any anyBelow allBelow pairBelow firstIndex tabulate sameBytes beOf beBytes field ascii start append apply memberAt checkpointAt voteAt memberIndex placeOf voteHeld
-    child? reached? ancestor? conflict? header recordSize recordLength decode decodeWhole decide decideRecord decideMember decideCheckpoint decideVote decidePlaces heightsAgree bondOutOfRange
-    membersFixed idHeld nameHeld decideEvent after outcomes readings count sum supports quorum support link? justifiedMarks justified? final? status conflicting?
-    doubleVote? surroundVote? breaks? conductFrom conduct broken? violator? insertById byId digits decimal newline statusText checkpointText checkpointLine checkpointLines
+    row any anyBelow allBelow pairBelow firstIndex tabulate sameBytes beOf beBytes field ascii start append appendAll single memberAt checkpointAt voteAt memberIndex placeOf voteHeld
+    child? reached? ancestor? conflict? header kindOf sizeOf decodeAs recordSize recordLength decode decide decideRecord decideMember decideCheckpoint voteBetween voteOf room decideVote andThen heightsAgree bondOutOfRange
+    membersFixed idHeld nameHeld decideEvent after outcomes readings count sum supports quorum carries support supportAt link? justifiedMarks justified? final? status statusAt writeText bufferAfter conflicting?
+    breaks? conductFrom conduct broken? violator? insertById byId digits decimal newline statusText checkpointText checkpointLine checkpointLines
     conductText memberText memberLine yesNo totalText totalLine summary stops? stoppedLine refusedLine outcomeLine outcomeLines reportRun reportBody report flatMap
-    entries ownVote? checkFrom check chargeOf charges listBytes entryBytes ourList bondOf wellFormed? bonds? tree? vote? votes? idTwice? nameTwice? voteTwice?
+    entries ownVote? checkFrom check chargeOf charges listBytes entryBytes ourList bondOf wellFormed? counts? members? bonds? tree? steps? vote? votes? idTwice? nameTwice? voteTwice?
 cases = (
   record {
     session-report = refl;
@@ -353,6 +363,10 @@ cases = (
     row-40-id-twice = refl;
     row-40-name-twice = refl;
     row-40-vote-twice = refl;
+    row-41 = refl;
+    row-41-last = refl;
+    row-41-source = refl;
+    row-41-target = refl;
     row-50 = refl;
     row-50-first = refl;
     row-50-more = refl;
@@ -364,5 +378,9 @@ cases = (
     row-55-other = refl;
     row-56 = refl;
     row-57 = refl;
+    row-60 = refl;
+    row-60-unwritten = refl;
+    row-60-written = refl;
+    row-60-room = refl;
   },
 )

@@ -61,17 +61,17 @@ module _ (m : Model) where
 apart : _≡_ {A = ℕ} 0 1 → ⊥
 apart e = omega arith
 
-module _ (root-height : ℕ) (m : Model) (good : WellFormed root-height m) where
+module _ (m : Model) (good : WellFormed m) where
   justified-mark : {p : ℕ} → Justified m p → mark m p ≡ true
   justified-mark root = refl
   justified-mark (link {s = s} {t = t} j l) =
-      let below = ancestor-later root-height (m .checkpoints) (good .tree) (link-climbs root-height m good s t l) in
+      let below = ancestor-later (m .checkpoints) (good .tree) (link-climbs m good s t l) in
       or-right (eqb t 0) (anyBelow t (λ k. getD (justifiedMarks m t) k false && link? m k t))
       (found-below t (λ k. getD (justifiedMarks m t) k false && link? m k t) s below (both (marks-at m t s below ∙ justified-mark j) l))
 
   pub justified-held : {p : ℕ} → Justified m p → p < length (m .checkpoints)
   justified-held root = good .tree .rooted
-  justified-held (link {s = s} {t = t} j l) = link-held root-height m good s t l
+  justified-held (link {s = s} {t = t} j l) = link-held m good s t l
 
   pub justified-true : (p : ℕ) → justified? m p ≡ true → Justified m p
   unfolding justified?
@@ -115,7 +115,7 @@ module _ (root-height : ℕ) (m : Model) (good : WellFormed root-height m) where
         other = b .at;
         one-final = final-true (a .at) (and-left (final? m (a .at)) (final? m (b .at)) finals);
         other-final = final-true (b .at) (and-right (final? m (a .at)) (final? m (b .at)) finals);
-        conflict = conflict-true root-height (m .checkpoints) (good .tree) (a .at) (b .at) (and-right (final? m (a .at) && final? m (b .at)) (conflict? (m .checkpoints) (a .at) (b .at)) (b .passes));
+        conflict = conflict-true (m .checkpoints) (good .tree) (a .at) (b .at) (and-right (final? m (a .at) && final? m (b .at)) (conflict? (m .checkpoints) (a .at) (b .at)) (b .passes));
       }
 
   true-conflicting : ConflictingFinals m → conflicting? m ≡ true
@@ -126,7 +126,7 @@ module _ (root-height : ℕ) (m : Model) (good : WellFormed root-height m) where
       (found-below n (λ j. final? m (c .one) && final? m j && conflict? (m .checkpoints) (c .one) j) (c .other) (justified-held (c .other-final .justified))
       (both
       (both (true-final (c .one) (c .one-final)) (true-final (c .other) (c .other-final)))
-      (true-conflict root-height (m .checkpoints) (good .tree) (c .one) (c .other) (c .conflict))))
+      (true-conflict (m .checkpoints) (good .tree) (c .one) (c .other) (c .conflict))))
 
   pub conflict-exact : ConflictExact m
   conflict-exact = (conflicting-true, true-conflicting)

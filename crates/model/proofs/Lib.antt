@@ -3,6 +3,9 @@ pub mod Growth
 pub mod Answer
 pub mod Refusals
 pub mod Bytes
+pub mod Log
+pub mod Rows
+pub mod Fits
 pub mod Tree
 pub mod Support
 pub mod Finality
@@ -13,4 +16,5 @@ pub mod Checker
 pub mod Sound
 pub mod Run
 pub mod Readings
+pub mod Refused
 pub mod Cases

@@ -7,18 +7,20 @@ use mathlib.Core.Bool.{Bool, true, false, cond}
 use borrow.Author.Tests.{eqb-false}
 use lib.ListN.{length, drop, getD, length-drop}
 use lib.Seq.{drop-drop}
-use lib.Dec.{eqb, ltb}
+use lib.Dec.{eqb}
 use Rattle.model.specs.Answer.{Answer, refused}
-use Rattle.model.specs.Bytes.{AreBytes, part, field}
-use Rattle.model.specs.Decide.{decideMember, decideCheckpoint, decidePlaces, decideVote, decideRecord, decide}
+use Rattle.model.specs.Bytes.{AreBytes}
+use Rattle.model.specs.Change.{Change, single, decided}
+use Rattle.model.specs.Decide.{decideRecord, decide}
 use Rattle.model.specs.Lists.{All, none, each}
-use Rattle.model.specs.Log.{unknownKind, cutRecord, memberRecord, checkpointRecord, voteRecord, recordSize, recordLength, decode, decodeWhole}
-use Rattle.model.specs.Model.{Model, Member, Vote, Change, apply}
+use Rattle.model.specs.Log.{Record, recordLength}
+use Rattle.model.specs.Model.{Model}
 use Rattle.model.specs.Report.{stops?}
 use Rattle.model.specs.Run.{Event, reading, decideEvent, outcomes, OfBytes, readings}
-use Rattle.model.proofs.Answer.{row-elim}
 use Rattle.model.proofs.Bytes.{drop-bytes}
 use Rattle.model.proofs.Lists.{clash, all-map}
+use Rattle.model.proofs.Log.{decode-elim}
+use Rattle.model.proofs.Rows.{member-elim, checkpoint-elim, vote-elim}
 
 -- ---- the bound
 
@@ -77,66 +79,29 @@ readings-bytes n s b = all-map (λ e f. subst OfBytes (sym (f .is)) (drop-bytes 
 
 module _ (m : Model) where
   abbrev GoesOn : Answer Change → Type 0
-  GoesOn a = stops? a ≡ false
-
-  member-goes-on : (x : Member) → GoesOn (decideMember m x)
-  unfolding decideMember stops?
-  member-goes-on x =
-      row-elim GoesOn 10 _ _ refl λ _.
-      row-elim GoesOn 11 _ _ refl λ _.
-      row-elim GoesOn 12 _ _ refl λ _.
-      row-elim GoesOn 13 _ _ refl λ _.
-      refl
-
-  checkpoint-goes-on : (name parent : List ℕ) → GoesOn (decideCheckpoint m name parent)
-  unfolding decideCheckpoint stops?
-  checkpoint-goes-on name parent =
-      row-elim GoesOn 20 _ _ refl λ _.
-      row-elim GoesOn 21 _ _ refl λ _.
-      row-elim GoesOn 22 _ _ refl λ _.
-      refl
-
-  places-go-on : (v : Vote) (sourceHeight targetHeight : ℕ) → GoesOn (decidePlaces m v sourceHeight targetHeight)
-  unfolding decidePlaces stops?
-  places-go-on v sourceHeight targetHeight =
-      row-elim GoesOn 33 _ _ refl λ _.
-      row-elim GoesOn 34 _ _ refl λ _.
-      row-elim GoesOn 35 _ _ refl λ _.
-      row-elim GoesOn 36 _ _ refl λ _.
-      refl
-
-  vote-goes-on : (id : ℕ) (source target : List ℕ) (sourceHeight targetHeight : ℕ) → GoesOn (decideVote m id source target sourceHeight targetHeight)
-  unfolding decideVote stops?
-  vote-goes-on id source target sourceHeight targetHeight =
-      row-elim GoesOn 30 _ _ refl λ _.
-      row-elim GoesOn 31 _ _ refl λ _.
-      row-elim GoesOn 32 _ _ refl λ _.
-      places-go-on _ sourceHeight targetHeight
+  GoesOn a = stops? (single a .told) ≡ false
 
   -- a record that is passed over does not stop the reading
-  pub whole-goes-on : (s : List ℕ) → eqb (recordLength s) 0 ≡ false → GoesOn (decide m s)
-  unfolding decide decode decodeWhole recordLength decideRecord
-  whole-goes-on [] e = clash refl e
-  whole-goes-on (kind ∷ s) e = go (eqb (recordSize kind) 0) (ltb (length (kind ∷ s)) (recordSize kind)) (eqb kind 1) (eqb kind 2) refl e
-    where
-      all : List ℕ
-      all = kind ∷ s
-
-      go : (unknown cut one two : Bool) → eqb (recordSize kind) 0 ≡ unknown → eqb (cond cut 0 (recordSize kind)) 0 ≡ false
-          → GoesOn (decideRecord m (cond unknown unknownKind (cond cut cutRecord (cond one (memberRecord (field 1 2 all) (field 3 8 all)) (cond two (checkpointRecord (part 1 32 all) (part 33 32 all)) (voteRecord (field 1 2 all) (part 3 32 all) (part 35 32 all) (field 67 4 all) (field 71 4 all)))))))
-      go true true one two u c = clash refl c
-      go true false one two u c = clash u c
-      go false true one two u c = clash refl c
-      go false false true two u c = member-goes-on _
-      go false false false true u c = checkpoint-goes-on _ _
-      go false false false false u c = vote-goes-on _ _ _ _ _
+  pub whole-goes-on : (s : List ℕ) → eqb (recordLength s) 0 ≡ false → stops? (decide m s .told) ≡ false
+  unfolding decide decideRecord single stops?
+  whole-goes-on s =
+      decode-elim (λ (r : Record) (n : ℕ). eqb n 0 ≡ false → stops? (decideRecord m r .told) ≡ false) s
+      (record {
+        nothing = clash refl;
+        unknown = clash refl;
+        cut = clash refl;
+        member = λ _ _. member-elim m GoesOn _ (each refl (each refl (each refl (each refl none)))) (λ _. refl);
+        checkpoint = λ _ _. checkpoint-elim m GoesOn _ _ (each refl (each refl (each refl none))) (λ _. refl);
+        vote = λ _ _.
+            vote-elim m GoesOn _ _ _ _ _ (each refl (each refl (each refl (each refl (each refl (each refl (each refl none))))))) (λ _ _. refl);
+      })
 
 -- the outcomes before the last do not stop
 pub stop-is-last : (m : Model) (n : ℕ) (s : List ℕ) (i : ℕ) → i + 1 < length (outcomes m (readings n s)) → stops? (getD (outcomes m (readings n s)) i (refused 0)) ≡ false
 unfolding readings outcomes decideEvent
 stop-is-last m zero s i h = absurd (omega arith)
 stop-is-last m (suc n) [] i h = absurd (omega arith)
-stop-is-last m (suc n) (x ∷ s) i h = go (stop-is-last (apply m (decide m (x ∷ s))) n rest) (eqb size 0) refl i h
+stop-is-last m (suc n) (x ∷ s) i h = go (stop-is-last (decided m (decide m (x ∷ s))) n rest) (eqb size 0) refl i h
   where
     size : ℕ
     size = recordLength (x ∷ s)
@@ -145,7 +110,7 @@ stop-is-last m (suc n) (x ∷ s) i h = go (stop-is-last (apply m (decide m (x �
     rest = drop size (x ∷ s)
 
     then : Model
-    then = apply m (decide m (x ∷ s))
+    then = decided m (decide m (x ∷ s))
 
     go : ((j : ℕ) → j + 1 < length (outcomes then (readings n rest)) → stops? (getD (outcomes then (readings n rest)) j (refused 0)) ≡ false)
         → (b : Bool) → eqb size 0 ≡ b → (j : ℕ) → j + 1 < length (outcomes m (reading (x ∷ s) ∷ cond b [] (readings n rest)))

@@ -1,11 +1,12 @@
 -- Justified, final, conflicting finals: source document 002, section 2, with bonds as weights.
 use Prim.Native.Nat.{ℕ, zero, suc}
 use mathlib.Core.List.{List, [], _∷_, _++_}
-use mathlib.Core.Bool.{Bool, false, cond, _&&_, _||_}
+use mathlib.Core.Bool.{Bool, false, cond, _&&_, _||_, not}
 use lib.ListN.{length, getD}
 use lib.Dec.{eqb}
+use Rattle.model.specs.Answer.{Answer, answer, row}
 use Rattle.model.specs.Lists.{anyBelow}
-use Rattle.model.specs.Model.{Model, Checkpoint}
+use Rattle.model.specs.Model.{Model, Checkpoint, placeHeld}
 use Rattle.model.specs.Support.{link?, Link}
 use Rattle.model.specs.Tree.{Child, Conflict, child?, conflict?}
 use Rattle.model.specs.declared.Status.{Status}
@@ -55,6 +56,10 @@ final? m p = justified? m p && anyBelow (length (m .checkpoints)) (λ c. child? 
 -- document 01's standing of a place
 unfoldable pub status : Model → ℕ → Status
 status m p = cond (final? m p) FinalStatus (cond (justified? m p) JustifiedStatus PlainStatus)
+
+-- the standing of a place: 41 where it isn't held
+unfoldable pub statusAt : Model → ℕ → Answer Status
+statusAt m p = row 41 (not (placeHeld m p)) (answer (status m p))
 
 -- the conflict answer
 unfoldable pub conflicting? : Model → Bool

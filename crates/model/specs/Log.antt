@@ -18,32 +18,46 @@ header log =
 
 -- what stands at the start of the bytes from an offset on
 pub data Record : Type 0 where
-  nothingLeft : Record
+  noRecord : Record
   unknownKind : Record
   cutRecord : Record
   memberRecord : (id bond : ℕ) → Record
   checkpointRecord : (name parent : List ℕ) → Record
   voteRecord : (id : ℕ) (source target : List ℕ) (sourceHeight targetHeight : ℕ) → Record
 
--- a record's bytes in all, by its kind byte; 0 for a kind that is unknown
-unfoldable pub recordSize : ℕ → ℕ
-recordSize kind = cond (eqb kind 1) 11 (cond (eqb kind 2) 65 (cond (eqb kind 3) 75 0))
+-- the kinds of records; a first byte that begins no record is of the other kind
+pub data Kind : Type 0 where
+  memberKind : Kind
+  checkpointKind : Kind
+  voteKind : Kind
+  otherKind : Kind
 
--- a whole record of a known kind
-unfoldable pub decodeWhole : ℕ → List ℕ → Record
-decodeWhole kind s =
-    cond (eqb kind 1) (memberRecord (field 1 2 s) (field 3 8 s))
-    (cond (eqb kind 2) (checkpointRecord (part 1 32 s) (part 33 32 s))
-    (voteRecord (field 1 2 s) (part 3 32 s) (part 35 32 s) (field 67 4 s) (field 71 4 s)))
+unfoldable pub kindOf : ℕ → Kind
+kindOf b = cond (eqb b 1) memberKind (cond (eqb b 2) checkpointKind (cond (eqb b 3) voteKind otherKind))
+
+-- a record's bytes in all; 0 for a kind that is unknown
+unfoldable pub sizeOf : Kind → ℕ
+sizeOf memberKind = 11
+sizeOf checkpointKind = 65
+sizeOf voteKind = 75
+sizeOf otherKind = 0
+
+-- a whole record
+unfoldable pub decodeAs : Kind → List ℕ → Record
+decodeAs memberKind s = memberRecord (field 1 2 s) (field 3 8 s)
+decodeAs checkpointKind s = checkpointRecord (part 1 32 s) (part 33 32 s)
+decodeAs voteKind s = voteRecord (field 1 2 s) (part 3 32 s) (part 35 32 s) (field 67 4 s) (field 71 4 s)
+decodeAs otherKind s = unknownKind
+
+-- the size by a record's first byte
+unfoldable pub recordSize : ℕ → ℕ
+recordSize b = sizeOf (kindOf b)
 
 unfoldable pub decode : List ℕ → Record
-decode [] = nothingLeft
-decode (kind ∷ s) =
-    cond (eqb (recordSize kind) 0) unknownKind
-    (cond (ltb (length (kind ∷ s)) (recordSize kind)) cutRecord
-    (decodeWhole kind (kind ∷ s)))
+decode [] = noRecord
+decode (b ∷ s) = cond (ltb (length (b ∷ s)) (recordSize b)) cutRecord (decodeAs (kindOf b) (b ∷ s))
 
 -- the bytes that reading on passes over: the record's, or none where it is unknown or cut, or nothing is left
 unfoldable pub recordLength : List ℕ → ℕ
 recordLength [] = 0
-recordLength (kind ∷ s) = cond (ltb (length (kind ∷ s)) (recordSize kind)) 0 (recordSize kind)
+recordLength (b ∷ s) = cond (ltb (length (b ∷ s)) (recordSize b)) 0 (recordSize b)

@@ -1,11 +1,9 @@
 -- The reference model, document 01's book: three lists, of members, checkpoints and votes, each in the order of acceptance.
-use Prim.Native.Nat.{ℕ, _+_}
-use mathlib.Core.List.{List, [], _∷_, _++_}
+use Prim.Native.Nat.{ℕ}
+use mathlib.Core.List.{List, [], _∷_}
 use mathlib.Core.Bool.{Bool, _&&_}
-use lib.ListN.{getD}
-use lib.Dec.{eqb}
-use Rattle.model.specs.Answer.{Answer, refused, answer}
-use Rattle.model.specs.Limits.{rootHeight}
+use lib.ListN.{length, getD}
+use lib.Dec.{eqb, ltb}
 use Rattle.model.specs.Lists.{firstIndex, sameBytes, any}
 
 pub record Member : Type 0 where
@@ -31,26 +29,18 @@ pub record Model : Type 0 where
 
 -- "It starts with the root alone."
 unfoldable pub start : List ℕ → Model
-start name = record { members = []; checkpoints = record { name = name; parent = 0; height = rootHeight } ∷ []; votes = [] }
+start name = record { members = []; checkpoints = record { name = name; parent = 0; height = 0 } ∷ []; votes = [] }
 
--- What an accepted record adds; `nothing` where no record was left to read.
-pub data Change : Type 0 where
-  nothing : Change
-  addMember : Member → Change
-  addCheckpoint : Checkpoint → Change
-  addVote : Vote → Change
+-- the model with other members, other checkpoints, other votes
 
--- "a member goes to the end of its list; so does a checkpoint ..; so does a vote"
-unfoldable pub append : Model → Change → Model
-append m nothing = m
-append m (addMember x) = record { members = m .members ++ x ∷ []; checkpoints = m .checkpoints; votes = m .votes }
-append m (addCheckpoint c) = record { members = m .members; checkpoints = m .checkpoints ++ c ∷ []; votes = m .votes }
-append m (addVote v) = record { members = m .members; checkpoints = m .checkpoints; votes = m .votes ++ v ∷ [] }
+abbrev pub withMembers : Model → List Member → Model
+withMembers m ms = record { members = ms; checkpoints = m .checkpoints; votes = m .votes }
 
--- "The first that applies is the refusal, and the lists stay."
-unfoldable pub apply : Model → Answer Change → Model
-apply m (refused n) = m
-apply m (answer c) = append m c
+abbrev pub withCheckpoints : Model → List Checkpoint → Model
+withCheckpoints m cs = record { members = m .members; checkpoints = cs; votes = m .votes }
+
+abbrev pub withVotes : Model → List Vote → Model
+withVotes m vs = record { members = m .members; checkpoints = m .checkpoints; votes = vs }
 
 -- what stands past the end of a list
 abbrev pub noMember : Member
@@ -87,6 +77,16 @@ memberIndex ms id = firstIndex (λ x. eqb (x .id) id) ms
 -- the place of the checkpoint with a name; the number of checkpoints where none has it
 unfoldable pub placeOf : List Checkpoint → List ℕ → ℕ
 placeOf cs name = firstIndex (λ c. sameBytes (c .name) name) cs
+
+unfoldable pub idHeld : Model → ℕ → Bool
+idHeld m id = ltb (memberIndex (m .members) id) (length (m .members))
+
+unfoldable pub nameHeld : Model → List ℕ → Bool
+nameHeld m name = ltb (placeOf (m .checkpoints) name) (length (m .checkpoints))
+
+-- a checkpoint stands at the place
+abbrev pub placeHeld : Model → ℕ → Bool
+placeHeld m p = ltb p (length (m .checkpoints))
 
 -- a member's vote s → t
 abbrev pub voteFor : ℕ → ℕ → ℕ → Vote

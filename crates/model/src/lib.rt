@@ -15,7 +15,7 @@ pub enum Status {
     Final,
 }
 
-// How much is held at most, and the largest bond.
+// How much is held at most, the largest bond, and the greatest height that the root may have.
 pub const MAX_MEMBERS: usize = 128;
 
 pub const MAX_CHECKPOINTS: usize = 512;
@@ -26,6 +26,8 @@ pub const MAX_VOTES: usize = 4096;
 pub const NAME_BYTES: usize = 32 * MAX_CHECKPOINTS;
 
 pub const MAX_BOND: u64 = 1_000_000_000_000;
+
+pub const MAX_ROOT_HEIGHT: u32 = 0;
 
 // Why something is refused: a case for each row of document 01's table, in its order; specs/Refusals.antt has the
 // numbers.

@@ -5,12 +5,12 @@ use mathlib.Core.List.{List, [], _∷_}
 use lib.ListN.{replicate}
 use Rattle.model.specs.Answer.{refused, answer, row}
 use Rattle.model.specs.Bytes.{field, beOf}
-use Rattle.model.specs.Decide.{membersFixed, bondOutOfRange, idHeld, decideMember, decideRecord, decide}
+use Rattle.model.specs.Change.{taken, single}
+use Rattle.model.specs.Decide.{membersFixed, bondOutOfRange, decideMember, decideRecord, decide}
 use Rattle.model.specs.Lists.{firstIndex, tabulate}
-use Rattle.model.specs.Log.{recordSize, recordLength, decode, decodeWhole}
-use Rattle.model.specs.Model.{memberIndex}
-use Rattle.model.specs.Run.{taken, told}
-use Rattle.state.specs.State.{emptyWitness, modelOf, withMember, store}
+use Rattle.model.specs.Log.{kindOf, sizeOf, decodeAs, recordSize, recordLength, decode}
+use Rattle.model.specs.Model.{memberIndex, idHeld}
+use Rattle.state.specs.State.{emptyWitness, modelOf, withMember, store, storeAll}
 use Rattle.reader.specs.Many.{rowsUsed, endedBy, Many, readMany}
 
 abbrev log : List ℕ
@@ -26,9 +26,9 @@ many n = readMany n (emptyWitness (replicate 32 0)) log 0
 
 -- the third record is refused by row 12 and passed, and the cut one ends the reading; and so does the limit
 read-on : many 9 ≡ record { passed = answer taken ∷ answer taken ∷ refused 12 ∷ []; end = endedBy (refused 5); next = 33; witness = many 2 .witness }
-unfolding row field beOf membersFixed bondOutOfRange idHeld decideMember decideRecord decide firstIndex tabulate recordSize recordLength decode decodeWhole memberIndex told emptyWitness modelOf withMember store readMany
+unfolding row field beOf membersFixed bondOutOfRange idHeld decideMember decideRecord decide firstIndex tabulate kindOf sizeOf decodeAs recordSize recordLength decode memberIndex single emptyWitness modelOf withMember store storeAll readMany
 read-on = refl
 
 limited : (many 1 .passed ≡ answer taken ∷ []) × (many 1 .end ≡ rowsUsed) × (many 1 .next ≡ 11)
-unfolding row field beOf membersFixed bondOutOfRange idHeld decideMember decideRecord decide firstIndex tabulate recordSize recordLength decode decodeWhole memberIndex told emptyWitness modelOf withMember store readMany
+unfolding row field beOf membersFixed bondOutOfRange idHeld decideMember decideRecord decide firstIndex tabulate kindOf sizeOf decodeAs recordSize recordLength decode memberIndex single emptyWitness modelOf withMember store storeAll readMany
 limited = (refl, refl, refl)

@@ -8,44 +8,23 @@ use borrow.Author.Tests.{eq-eqb, ne-eqb}
 use borrow.Table.Elements.{map-app}
 use lib.Dec.{eqb}
 use lib.ListN.{length, drop, set, getD, length-drop, length-append}
-use lib.Seq.{getD-drop, drop-cons, set-at}
+use lib.Seq.{drop-cons, set-at}
 use Rattle.model.specs.Answer.{Answer, answer}
 use Rattle.model.specs.Bytes.{AreBytes}
+use Rattle.model.specs.Change.{Told, nothingLeft, Decision}
 use Rattle.model.specs.Decide.{decide}
-use Rattle.model.specs.Limits.{rootHeight}
 use Rattle.model.specs.Log.{recordLength}
-use Rattle.model.specs.Model.{Model, Change}
-use Rattle.model.specs.Run.{reading, Told, nothingLeft, told, decideEvent}
-use Rattle.model.specs.WellFormed.{WellFormed}
-use Rattle.model.proofs.Run.{event-good}
-use Rattle.state.specs.State.{Typed, modelOf, store}
+use Rattle.state.specs.State.{modelOf, stored}
+use Rattle.model.proofs.Bytes.{drop-bytes}
+use Rattle.state.specs.Sound.{Sound}
 use Rattle.state.specs.Reading.{outcomeOf}
 use Rattle.state.specs.declared.Outcome.{Outcome}
 use Rattle.state.specs.declared.Outcome.the-variants.{Nothing}
 use Rattle.state.specs.declared.Witness.{Witness}
-use Rattle.state.proofs.Kept.{reading-kept}
+use Rattle.state.proofs.Kept.{reading-sound}
 use Rattle.reader.specs.Many.{endedBy, Many, behind, readMany, lastTold, rowOf, endOf, IsBatch}
 use Rattle.reader.specs.declared.End.{End}
 use Rattle.reader.specs.declared.End.the-variants.{RowsUsed, EndedBy}
-
--- what is left of bytes consists of bytes
-pub bytes-left : (at : ℕ) (log : List ℕ) → AreBytes log → AreBytes (drop at log)
-bytes-left at log h i l = rw getD-drop (h (at + i) (omega (arith, length-drop at log)))
-
--- a sound witness
-pub record Sound (w : Witness) : Type 0 where
-  pub typed : Typed w
-  pub good : WellFormed rootHeight (modelOf w)
-
--- a reading leaves a sound witness
-pub reading-sound : (w : Witness) → Sound w → (s : List ℕ) → AreBytes s → Sound (store w (decide (modelOf w) s))
-unfolding decideEvent
-reading-sound w sound s h =
-    let kept = reading-kept w (sound .typed) s h in
-    record {
-      typed = kept .typed;
-      good = subst (λ (m : Model). WellFormed rootHeight m) (sym (kept .model)) (event-good rootHeight (modelOf w) (sound .good) (reading s) h);
-    }
 
 -- ---- the rows
 
@@ -133,27 +112,27 @@ module _ {m : Many} {log before rows : List ℕ} {held : Witness} {next : ℕ} {
   abbrev s : List ℕ
   s = drop next log
 
-  abbrev a : Answer Change
-  a = decide (modelOf held) s
+  abbrev d : Decision
+  d = decide (modelOf held) s
 
   -- the record at the offset
   module _ (room : i < length rows) where
     first : (b : Bool) → eqb (recordLength s) 0 ≡ b
         → readMany (length before - i) held log next
-        ≡ cond b (record { passed = []; end = endedBy (told a); next = next; witness = held }) (behind (told a ∷ []) (readMany (length before - (i + 1)) (store held a) log (next + recordLength s)))
+        ≡ cond b (record { passed = []; end = endedBy (d .told); next = next; witness = held }) (behind (d .told ∷ []) (readMany (length before - (i + 1)) (stored held d) log (next + recordLength s)))
     unfolding readMany
     first b e =
         let some : length before - i ≡ suc (length before - (i + 1)) = omega (arith, rows-length) in
         ap (λ (n : ℕ). readMany n held log next) some
-        ∙ ap (λ (c : Bool). cond c (record { passed = []; end = endedBy (told a); next = next; witness = held }) (behind (told a ∷ []) (readMany (length before - (i + 1)) (store held a) log (next + recordLength s)))) e
+        ∙ ap (λ (c : Bool). cond c (record { passed = []; end = endedBy (d .told); next = next; witness = held }) (behind (d .told ∷ []) (readMany (length before - (i + 1)) (stored held d) log (next + recordLength s)))) e
 
     -- it cannot be passed
-    pub ended : {o : Outcome} → outcomeOf o ≡ told a → recordLength s ≡ 0 → IsBatch m before (record { end = EndedBy o; last = last; next = next; records = i; witness = held }) rows
+    pub ended : {o : Outcome} → outcomeOf o ≡ d .told → recordLength s ≡ 0 → IsBatch m before (record { end = EndedBy o; last = last; next = next; records = i; witness = held }) rows
     ended {o} t e =
         ends-with {o = EndedBy o} (first true (eq-eqb (recordLength s) 0 e) ∙ ap (λ (u : Answer Told). record { passed = []; end = endedBy u; next = next; witness = held }) (sym t))
 
     -- it is passed, and its row is set
-    pub passed : {o : Outcome} {n : ℕ} {v : Witness} → outcomeOf o ≡ told a → n ≡ recordLength s → (n ≡ 0 → ⊥) → v ≡ store held a → next + n < 2 ^ 64 → AreBytes log
+    pub passed : {o : Outcome} {n : ℕ} {v : Witness} → outcomeOf o ≡ d .told → n ≡ recordLength s → (n ≡ 0 → ⊥) → v ≡ stored held d → next + n < 2 ^ 64 → AreBytes log
         → Sofar m log before (set rows i (rowOf (outcomeOf o))) v (next + n) o (i + 1)
     passed {o} {n} {v} t size some stored within bytes =
         let ts = so .told-so-far in
@@ -170,6 +149,6 @@ module _ {m : Many} {log before rows : List ℕ} {held : Witness} {next : ℕ} {
               (first false (ne-eqb (recordLength s) 0 (λ e. some (size ∙ e)))
               ∙ (λ k. behind (sym t k ∷ []) (readMany (length before - (i + 1)) (sym stored k) log (next + sym size k))))
               ∙ (λ k. record { passed = sym (append-assoc ts (outcomeOf o ∷ []) (x .passed)) k; end = x .end; next = x .next; witness = x .witness });
-          sound = subst Sound (sym stored) (reading-sound held (so .sound) s (bytes-left next log bytes));
+          sound = subst Sound (sym stored) (reading-sound held (so .sound) s (drop-bytes next log bytes));
           fits = within;
         }

@@ -1,15 +1,17 @@
 -- The votes' numbers beside the witness, in chains: they hold its votes, whatever is stored.
 use Prim.Native.Nat.{ℕ, _+_, _<_}
-use mathlib.Core.Path.{_≡_, sym, subst}
+use mathlib.Core.Path.{_≡_, sym, ap, subst}
 use mathlib.Core.List.{List}
-use lib.ListN.{set}
-use Rattle.model.specs.Answer.{Answer}
-use Rattle.model.specs.Model.{Change, Member, Checkpoint, Vote}
+use lib.ListN.{getD, set}
+use Rattle.model.specs.Change.{Decision}
+use Rattle.model.specs.Model.{Vote}
+use Rattle.model.specs.Lists.{tabulate}
 use Rattle.search.specs.Chains.{Indexed}
-use Rattle.state.specs.State.{Sized, modelOf, withMember, withCheckpoint, withVote, store}
+use Rattle.state.specs.Sound.{SizedVotes}
+use Rattle.state.specs.State.{VotePart, votePart, place, modelOf, withVote, stored}
 use Rattle.state.specs.Tables.{keyOf, KeysHeld}
 use Rattle.state.specs.declared.Witness.{Witness}
-use Rattle.state.proofs.Held.{member-kept, checkpoint-kept, vote-more}
+use Rattle.state.proofs.Held.{votes-kept, vote-more}
 
 pub record Searched (w : Witness) (keys heads nexts : List ℕ) : Type 0 where
   pub indexed : Indexed (w .«vote_count») keys heads nexts
@@ -23,20 +25,26 @@ searched-as {v} {w} {keys} {keys′} {heads} {heads′} {nexts} {nexts′} e k h
     (subst (λ (l : List ℕ). Searched w keys heads l) (sym n) so)))
 
 -- what the code leaves: the witness with what was decided stored, and the numbers that go with it
-pub record Leaves (w : Witness) (a : Answer Change) (v : Witness) (keys heads nexts : List ℕ) : Type 0 where
-  pub stored : v ≡ store w a
+pub record Leaves (w : Witness) (d : Decision) (v : Witness) (keys heads nexts : List ℕ) : Type 0 where
+  pub stored : v ≡ stored w d
   pub searched : Searched v keys heads nexts
 
+-- the votes that a part holds
+abbrev votesIn : VotePart → List Vote
+votesIn p =
+    tabulate (p .count) (λ i. record { voter = getD (p .voters) i 0; source = getD (p .sources) i (place 0) .0; target = getD (p .targets) i (place 0) .0 })
+
 module _ (w : Witness) {keys heads nexts : List ℕ} (so : Searched w keys heads nexts) where
-  pub with-member : (x : Member) → Searched (withMember w x) keys heads nexts
-  unfolding withMember
-  with-member x = record { indexed = so .indexed; votes = member-kept w (so .votes) x }
+  -- where the votes are as they were
+  pub without-vote : (v : Witness) → votePart v ≡ votePart w → Searched v keys heads nexts
+  unfolding modelOf
+  without-vote v same =
+      record {
+        indexed = subst (λ (p : VotePart). Indexed (p .count) keys heads nexts) (sym same) (so .indexed);
+        votes = subst (λ (p : VotePart). KeysHeld (modelOf v) keys (p .count)) (sym same) (votes-kept w (so .votes) (modelOf v) (ap votesIn same));
+      }
 
-  pub with-checkpoint : (c : Checkpoint) → Searched (withCheckpoint w c) keys heads nexts
-  unfolding withCheckpoint
-  with-checkpoint c = record { indexed = so .indexed; votes = checkpoint-kept w (so .votes) c }
-
-  pub with-vote : Sized w → (v : Vote) → w .«vote_count» < 4096 → v .source < 65536 → v .target < 65536 → {keys′ heads′ nexts′ : List ℕ}
+  pub with-vote : SizedVotes (votePart w) → (v : Vote) → w .«vote_count» < 4096 → v .source < 65536 → v .target < 65536 → {keys′ heads′ nexts′ : List ℕ}
       → keys′ ≡ set keys (w .«vote_count») (keyOf v) → Indexed (w .«vote_count» + 1) keys′ heads′ nexts′ → Searched (withVote w v) keys′ heads′ nexts′
   unfolding withVote
   with-vote sized v room vs vt {keys′} e indexed =

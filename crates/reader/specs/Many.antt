@@ -6,10 +6,10 @@ use mathlib.Core.Bool.{cond}
 use lib.Dec.{eqb}
 use lib.ListN.{length, drop}
 use Rattle.model.specs.Answer.{Answer, refused, answer}
+use Rattle.model.specs.Change.{Told, nothingLeft}
 use Rattle.model.specs.Decide.{decide}
 use Rattle.model.specs.Log.{recordLength}
-use Rattle.model.specs.Run.{Told, nothingLeft, told}
-use Rattle.state.specs.State.{modelOf, store}
+use Rattle.state.specs.State.{modelOf, stored}
 use Rattle.state.specs.Reading.{outcomeOf}
 use Rattle.state.specs.declared.Witness.{Witness}
 use Rattle.reader.specs.declared.Batch.{Batch}
@@ -39,10 +39,10 @@ unfoldable pub readMany : ℕ → Witness → List ℕ → ℕ → Many
 readMany zero w log at = record { passed = []; end = rowsUsed; next = at; witness = w }
 readMany (suc n) w log at =
     let s = drop at log in
-    let a = decide (modelOf w) s in
+    let d = decide (modelOf w) s in
     cond (eqb (recordLength s) 0)
-    (record { passed = []; end = endedBy (told a); next = at; witness = w })
-    (behind (told a ∷ []) (readMany n (store w a) log (at + recordLength s)))
+    (record { passed = []; end = endedBy (d .told); next = at; witness = w })
+    (behind (d .told ∷ []) (readMany n (stored w d) log (at + recordLength s)))
 
 -- what the last of them told; `t` where there is none
 unfoldable pub lastTold : Answer Told → List (Answer Told) → Answer Told

@@ -1,12 +1,11 @@
 // Reading a log on: several records in one call.
 use rules::Decision;
+use state::Counts;
 use state::Outcome;
 use state::Witness;
 ghost use mathlib.Core.Path.{_≡_};
 ghost use lib.ListN.{length};
-ghost use Rattle.model.specs.Limits.{rootHeight};
-ghost use Rattle.model.specs.WellFormed.{WellFormed};
-ghost use Rattle.state.specs.State.{Typed, modelOf};
+ghost use Rattle.state.specs.Sound.{Sound};
 ghost use Rattle.state.specs.Reading.{outcomeOf};
 ghost use Rattle.reader.specs.Many.{rowOf, readMany, endOf, endedTold, IsBatch};
 
@@ -43,7 +42,7 @@ fn row_of(o: Outcome) -> u8
 // and gave it back for each record would copy it each time. Beside it go the votes' numbers in chains, so that a vote
 // is soon looked for.
 pub fn read_many(w: Witness, log: &[u8], at: usize, rows: &mut [u8]) -> Batch
-    requires { ⌜ Typed w × WellFormed rootHeight (modelOf w) ⌝ }
+    requires { ⌜ Sound w ⌝ }
     ensures { λ r. ⌜
         IsBatch (readMany (length (now (rows .entry))) w (now (log .entry)) at) (now (rows .entry)) r (now (rows .exit))
         ⌝ }
@@ -62,24 +61,27 @@ pub fn read_many(w: Witness, log: &[u8], at: usize, rows: &mut [u8]) -> Batch
         let members = held.member_count;
         let checkpoints = held.checkpoint_count;
         let votes = held.vote_count;
+        let counts = Counts {
+            members,
+            checkpoints,
+            votes,
+        };
         let parents = held.parents;
         let heights = held.heights;
         let d = rules::decide_record(
+            counts,
             &held.ids,
-            members,
             &held.names,
             parents,
             heights,
-            checkpoints,
             &keys,
             &heads,
             &nexts,
-            votes,
             log,
             next,
         );
         let outcome = rules::outcome_of(d);
-        let passed = rules::passed_by(d);
+        let passed = wire::records::record_length(log, next);
         if passed == 0 {
             return Batch {
                 end: End::EndedBy(outcome),
@@ -110,7 +112,7 @@ pub fn read_many(w: Witness, log: &[u8], at: usize, rows: &mut [u8]) -> Batch
                 search::put_first(&mut keys, &mut heads, &mut nexts, votes, key);
             }
             Decision::Nothing => {}
-            Decision::Refuse(_, _) => {}
+            Decision::Refuse(_) => {}
         }
         rows[i] = row_of(outcome);
         last = outcome;

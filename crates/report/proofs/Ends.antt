@@ -20,7 +20,7 @@ use Rattle.state.specs.declared.Beginning.{Beginning}
 use Rattle.state.specs.declared.Start.the-variants.{Begun, Refused as RefusedHeader}
 use Rattle.state.specs.declared.Witness.{Witness}
 use Rattle.text.proofs.Putting.{none}
-use Rattle.witness.specs.Calls.{sound?}
+use Rattle.state.specs.Sound.{sound?}
 use Rattle.report.specs.Feed.{Feeding, full, ended, wants, refusedBy, pausedAt, lineRoom, onSound, headed, openCall, endText, endFed, IsFed}
 use Rattle.report.specs.declared.Fed.{Fed}
 use Rattle.report.specs.declared.Pause.the-variants.{Wants}

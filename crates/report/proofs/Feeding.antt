@@ -8,20 +8,20 @@ use borrow.Author.Tests.{ne-eqb}
 use lib.Dec.{eqb, ltb}
 use lib.ListN.{length, drop}
 use lib.Seq.{drop-drop}
-use Rattle.model.specs.Answer.{Answer, refused, answer}
+use Rattle.model.specs.Answer.{refused}
 use Rattle.model.specs.Bytes.{AreBytes}
+use Rattle.model.specs.Change.{Decision, single}
 use Rattle.model.specs.Decide.{decide, decideRecord}
 use Rattle.model.specs.Log.{recordLength, decode}
-use Rattle.model.specs.Model.{Model, Change}
+use Rattle.model.specs.Model.{Model}
 use Rattle.model.specs.Report.{stops?, outcomeLine}
-use Rattle.state.specs.State.{modelOf, store}
+use Rattle.state.specs.State.{modelOf, stored}
 use Rattle.state.specs.declared.Witness.{Witness}
-use Rattle.rules.proofs.ByKind.{Decided}
 use Rattle.state.proofs.Kept.{reading-kept}
-use Rattle.reader.proofs.Runs.{Sound}
+use Rattle.state.specs.Sound.{Sound}
 use Rattle.report.specs.Feed.{wants, full, outOfNumbers, Feeding, pausedAt, ahead, lineRoom, spent, halted, feedCall, endText}
 use Rattle.report.specs.Pieces.{onward}
-use Rattle.report.proofs.ByRecord.{call-elim, Halts, nothing-left, unknown, cut, halts, unknown-decided, cut-decided}
+use Rattle.report.proofs.ByRecord.{call-elim, Halts, nothing-left, unknown, cut, halts, Decided, unknown-decided, cut-decided}
 use Rattle.report.proofs.RestOfReport.{restOfReport, rest-goes-on, rest-stops, rest-ends}
 
 -- if the log ended here, its end would be the rest of the report
@@ -44,23 +44,23 @@ module _ (w : Witness) (sound : Sound w) (k : ℕ) where
   waiting s h = record { sound = sound; goes-on = λ t. refl; waits = λ e. h }
 
   -- an unknown kind ends the report, and more may follow the others
-  halted-fed : (s : List ℕ) → Halts s → FedOf w k s (halted (decide (modelOf w) s) w k)
-  unfolding halted onward endText stops? decide decideRecord decode
+  halted-fed : (s : List ℕ) → Halts s → FedOf w k s (halted (decide (modelOf w) s .told) w k)
+  unfolding halted onward endText stops? decide decideRecord decode single
   halted-fed [] nothing-left = waiting [] (rest-ends (modelOf w) k)
   halted-fed (kind ∷ r) (unknown e) =
       let m = modelOf w in
-      let is : (l : List ℕ) → Decided m (kind ∷ l) (refused 4) 0 = λ l. unknown-decided m kind l e in
-      subst (λ (a : Answer Change). FedOf w k (kind ∷ r) (halted a w k)) (sym (is r .answer))
+      let is : (l : List ℕ) → Decided m (kind ∷ l) (single (refused 4)) = λ l. unknown-decided m kind l e in
+      subst (λ (d : Decision). FedOf w k (kind ∷ r) (halted (d .told) w k)) (sym (is r .is))
       (record {
         sound = sound;
-        goes-on = λ t. rest-stops m k 4 (kind ∷ (r ++ t)) (is (r ++ t) .answer) (is (r ++ t) .passed) refl ∙ sym (append-nil _);
+        goes-on = λ t. rest-stops m k 4 (kind ∷ (r ++ t)) (is (r ++ t) .is) (is (r ++ t) .none) refl ∙ sym (append-nil _);
         waits = λ p. let z : _≡_ {A = ℕ} 0 1 = cc in absurd (omega arith);
       })
   halted-fed (kind ∷ r) (cut short) =
       let m = modelOf w in
       let is = cut-decided m kind r short in
-      subst (λ (a : Answer Change). FedOf w k (kind ∷ r) (halted a w k)) (sym (is .answer))
-      (waiting (kind ∷ r) (rest-stops m k 5 (kind ∷ r) (is .answer) (is .passed) refl ∙ rw (ne-eqb (length (kind ∷ r)) 0 (λ p. omega (arith, p)))))
+      subst (λ (d : Decision). FedOf w k (kind ∷ r) (halted (d .told) w k)) (sym (is .is))
+      (waiting (kind ∷ r) (rest-stops m k 5 (kind ∷ r) (is .is) (is .none) refl ∙ rw (ne-eqb (length (kind ∷ r)) 0 (λ p. omega (arith, p)))))
 
   -- no room for a line, or no number for a record
   spent-fed : (s : List ℕ) (room : ℕ) → FedOf w k s (pausedAt [] (spent room) w k)
@@ -72,10 +72,10 @@ module _ (w : Witness) (sound : Sound w) (k : ℕ) where
       go false = record { sound = sound; goes-on = λ t. refl; waits = λ p. let z : _≡_ {A = ℕ} 0 1 = cc in absurd (omega arith) }
 
   -- a record that is passed, and what the call comes to behind it
-  passed-fed : (s : List ℕ) → AreBytes s → eqb (recordLength s) 0 ≡ false → (f : Feeding) → FedOf (store w (decide (modelOf w) s)) (k + 1) (drop (recordLength s) s) f
-      → FedOf w k s (ahead (outcomeLine k (decide (modelOf w) s)) (recordLength s) f)
+  passed-fed : (s : List ℕ) → AreBytes s → eqb (recordLength s) 0 ≡ false → (f : Feeding) → FedOf (stored w (decide (modelOf w) s)) (k + 1) (drop (recordLength s) s) f
+      → FedOf w k s (ahead (outcomeLine k (decide (modelOf w) s .told)) (recordLength s) f)
   passed-fed s bytes e f later =
-      let line = outcomeLine k (decide (modelOf w) s) in
+      let line = outcomeLine k (decide (modelOf w) s .told) in
       let left = drop (recordLength s) s in
       let same : drop (f .passed) left ≡ drop (recordLength s + f .passed) s = drop-drop (f .passed) (recordLength s) s in
       record {

@@ -7,43 +7,43 @@ use mathlib.Core.Bool.{Bool, true, false, cond, not, _&&_, _||_}
 use lib.Dec.{eqb, ltb}
 use lib.ListN.{length, drop, length-drop}
 use Rattle.model.specs.Answer.{Answer, refused, answer}
+use Rattle.model.specs.Change.{Told}
 use Rattle.model.specs.Decide.{decide}
 use Rattle.model.specs.Log.{header, recordLength}
-use Rattle.model.specs.Model.{Change}
 use Rattle.model.specs.Report.{stoppedLine, outcomeLine}
-use Rattle.state.specs.State.{modelOf, store}
+use Rattle.state.specs.State.{modelOf, stored}
 use Rattle.state.proofs.Started.{header-long}
 use Rattle.state.specs.declared.Witness.{Witness}
 use Rattle.reader.proofs.Made.{length-inside}
 use Rattle.text.proofs.Putting.{kept}
-use Rattle.witness.specs.Calls.{sound?}
+use Rattle.state.specs.Sound.{sound?}
 use Rattle.report.specs.Feed.{Feeding, full, wants, ended, pausedAt, ahead, refusedBy, lineRoom, lastNumber, spent, halted, feedFrom, onSound, feedCall, headed, openCall, IsFed}
 use Rattle.report.specs.declared.Fed.{Fed}
 
-halted-passes : (a : Answer Change) (w : Witness) (k : ℕ) → halted a w k .passed ≡ 0
+halted-passes : (t : Answer Told) (w : Witness) (k : ℕ) → halted t w k .passed ≡ 0
 unfolding halted
 halted-passes (refused n) w k = go (eqb n 4)
   where
     go : (b : Bool) → cond b (pausedAt (stoppedLine 4 k) ended w k) (pausedAt [] wants w k) .passed ≡ 0
     go true = refl
     go false = refl
-halted-passes (answer c) w k = refl
+halted-passes (answer t) w k = refl
 
 from-passes : (n room : ℕ) (w : Witness) (k : ℕ) (s : List ℕ) → feedFrom n room w k s .passed ≤ length s
 unfolding feedFrom
 from-passes zero room w k s = omega arith
 from-passes (suc n) room w k s =
-    let a = decide (modelOf w) s in
+    let d = decide (modelOf w) s in
     let size = recordLength s in
-    let line = outcomeLine k a in
-    one a size line (feedFrom n (room - length line) (store w a) (k + 1) (drop size s)) (length-inside s)
-    (from-passes n (room - length line) (store w a) (k + 1) (drop size s)) (ltb room lineRoom || eqb k lastNumber) (eqb size 0)
+    let line = outcomeLine k (d .told) in
+    one (d .told) size line (feedFrom n (room - length line) (stored w d) (k + 1) (drop size s)) (length-inside s)
+    (from-passes n (room - length line) (stored w d) (k + 1) (drop size s)) (ltb room lineRoom || eqb k lastNumber) (eqb size 0)
   where
-    one : (a : Answer Change) (size : ℕ) (line : List ℕ) (later : Feeding) → size ≤ length s → later .passed ≤ length (drop size s) → (spent? none : Bool)
-        → cond spent? (pausedAt [] (spent room) w k) (cond none (halted a w k) (ahead line size later)) .passed ≤ length s
-    one a size line later inside fewer true none = omega arith
-    one a size line later inside fewer false true = omega (arith, halted-passes a w k)
-    one a size line later inside fewer false false = omega (arith, fewer, inside, length-drop size s)
+    one : (t : Answer Told) (size : ℕ) (line : List ℕ) (later : Feeding) → size ≤ length s → later .passed ≤ length (drop size s) → (spent? none : Bool)
+        → cond spent? (pausedAt [] (spent room) w k) (cond none (halted t w k) (ahead line size later)) .passed ≤ length s
+    one t size line later inside fewer true none = omega arith
+    one t size line later inside fewer false true = omega (arith, halted-passes t w k)
+    one t size line later inside fewer false false = omega (arith, fewer, inside, length-drop size s)
 
 pub feed-passes : (room : ℕ) (w : Witness) (k : ℕ) (s : List ℕ) → feedCall room w k s .passed ≤ length s
 unfolding feedCall onSound

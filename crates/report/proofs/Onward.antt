@@ -11,16 +11,17 @@ use lib.ListN.{length, take, drop, length-map, length-append, length-drop}
 use lib.Seq.{take-at, drop-drop}
 use Rattle.model.specs.Answer.{Answer}
 use Rattle.model.specs.Bytes.{AreBytes}
+use Rattle.model.specs.Change.{Told, Decision}
 use Rattle.model.specs.Decide.{decide}
 use Rattle.model.specs.Log.{recordLength}
-use Rattle.model.specs.Model.{Change}
 use Rattle.model.specs.Report.{outcomeLine}
-use Rattle.model.specs.Run.{Told, told}
 use Rattle.state.specs.Reading.{outcomeOf}
-use Rattle.state.specs.State.{modelOf, store}
+use Rattle.state.specs.State.{modelOf, stored}
 use Rattle.state.specs.declared.Outcome.{Outcome}
 use Rattle.state.specs.declared.Witness.{Witness}
-use Rattle.reader.proofs.Runs.{Sound, bytes-left, reading-sound}
+use Rattle.state.specs.Sound.{Sound}
+use Rattle.state.proofs.Kept.{reading-sound}
+use Rattle.model.proofs.Bytes.{drop-bytes}
 use Rattle.reader.proofs.Made.{length-inside, while-passed, many-ends}
 use Rattle.reader.specs.Many.{Ended, Many, readMany, rowOf, endOf, endedTold, IsBatch}
 use Rattle.reader.specs.declared.Batch.{Batch}
@@ -91,8 +92,8 @@ module _ {whole : Feeding} {log : List ℕ} {at : ℕ} {before buf : List ℕ} {
   abbrev left : List ℕ
   left = drop next log
 
-  abbrev a : Answer Change
-  a = decide (modelOf held) left
+  abbrev d : Decision
+  d = decide (modelOf held) left
 
   -- what a call that pauses here gives back
   paused-here : {f : Feeding} {r : Fed} {after : List ℕ} → feedFrom (suc (so .fuel)) (length before - end) held k left ≡ f → IsFed f next end buf r after → IsFed whole at 0 before r after
@@ -118,7 +119,7 @@ module _ {whole : Feeding} {log : List ℕ} {at : ℕ} {before buf : List ℕ} {
   size = recordLength left
 
   abbrev passing : Bool → Feeding
-  passing b = cond b (halted a held k) (ahead (outcomeLine k a) size (feedFrom (so .fuel) (length before - end - length (outcomeLine k a)) (store held a) (k + 1) (drop size left)))
+  passing b = cond b (halted (d .told) held k) (ahead (outcomeLine k (d .told)) size (feedFrom (so .fuel) (length before - end - length (outcomeLine k (d .told))) (stored held d) (k + 1) (drop size left)))
 
   abbrev branches : Bool → Feeding
   branches b = cond b (pausedAt [] (spent (length before - end)) held k) (passing (eqb size 0))
@@ -139,35 +140,35 @@ module _ {whole : Feeding} {log : List ℕ} {at : ℕ} {before buf : List ℕ} {
     goes-on b e = opened false (ap₂ _||_ (le-ltb (length buf - end) lineRoom room) (ne-eqb k lastNumber (λ e. omega (arith, number, e)))) ∙ ap passing e
 
     -- no record can be passed
-    halted-here : {f : Fed} {after : List ℕ} → size ≡ 0 → IsFed (halted a held k) next end buf f after → IsFed whole at 0 before f after
+    halted-here : {f : Fed} {after : List ℕ} → size ≡ 0 → IsFed (halted (d .told) held k) next end buf f after → IsFed whole at 0 before f after
     halted-here none fed = paused-here (goes-on true (eq-eqb size 0 none)) fed
 
     -- a record is passed, and its line is written
-    passed-here : AreBytes log → {buf′ : List ℕ} {end′ : ℕ} → (size ≡ 0 → ⊥) → Put buf end (outcomeLine k a) buf′ end′
-        → Sofar whole log at before buf′ (store held a) (k + 1) (next + size) end′
+    passed-here : AreBytes log → {buf′ : List ℕ} {end′ : ℕ} → (size ≡ 0 → ⊥) → Put buf end (outcomeLine k (d .told)) buf′ end′
+        → Sofar whole log at before buf′ (stored held d) (k + 1) (next + size) end′
     passed-here bytes {buf′} {end′} some line =
         let inside : size ≤ length left = length-inside left in
         let fuel : so .fuel ≡ suc (so .fuel - 1) = omega (arith, so .enough, inside, ne-zero size some) in
         let rest : length (drop (next + size) log) ≤ so .fuel - 1 = omega (arith, so .enough, inside, length-drop next log, length-drop (next + size) log, ne-zero size some) in
-        let room-left : length before - end - length (outcomeLine k a) ≡ length before - end′ = omega (arith, line .past) in
-        let x = feedFrom (suc (so .fuel - 1)) (length before - end′) (store held a) (k + 1) (drop (next + size) log) in
+        let room-left : length before - end - length (outcomeLine k (d .told)) ≡ length before - end′ = omega (arith, line .past) in
+        let x = feedFrom (suc (so .fuel - 1)) (length before - end′) (stored held d) (k + 1) (drop (next + size) log) in
         let sum : so .passed + (size + x .passed) ≡ so .passed + size + x .passed = omega arith in
-        let after-it : feedFrom (so .fuel) (length before - end - length (outcomeLine k a)) (store held a) (k + 1) (drop size left) ≡ x =
-        (λ i. feedFrom (fuel i) (room-left i) (store held a) (k + 1) (drop-drop size next log i))
+        let after-it : feedFrom (so .fuel) (length before - end - length (outcomeLine k (d .told))) (stored held d) (k + 1) (drop size left) ≡ x =
+        (λ i. feedFrom (fuel i) (room-left i) (stored held d) (k + 1) (drop-drop size next log i))
         in
         record {
-          text = so .text ++ outcomeLine k a;
+          text = so .text ++ outcomeLine k (d .told);
           passed = so .passed + size;
           fuel = so .fuel - 1;
-          sound = reading-sound held (so .sound) left (bytes-left next log bytes);
+          sound = reading-sound held (so .sound) left (drop-bytes next log bytes);
           numbered = omega (arith, number);
           enough = rest;
           reached = omega (arith, so .reached);
           put = Putting.next (so .put) line;
           more =
               so .more
-              ∙ ap (ahead (so .text) (so .passed)) (goes-on false (ne-eqb size 0 some) ∙ ap (ahead (outcomeLine k a) size) after-it)
-              ∙ (λ i. record { text = sym (append-assoc (so .text) (outcomeLine k a) (x .text)) i; paused = x .paused; passed = sum i; records = x .records; witness = x .witness });
+              ∙ ap (ahead (so .text) (so .passed)) (goes-on false (ne-eqb size 0 some) ∙ ap (ahead (outcomeLine k (d .told)) size) after-it)
+              ∙ (λ i. record { text = sym (append-assoc (so .text) (outcomeLine k (d .told)) (x .text)) i; paused = x .paused; passed = sum i; records = x .records; witness = x .witness });
         }
 
 -- ---- a batch: its lines are put into the buffer all at once, behind it
@@ -207,20 +208,20 @@ module _ {whole : Feeding} {log : List ℕ} {at : ℕ} {before buf : List ℕ} {
       }
 
   one-more : (ts : List (Answer Told)) (v : Witness) (p : ℕ) → length ts < n → eqb (recordLength (drop p log)) 0 ≡ false → Batched ts v p
-      → Batched (ts ++ told (decide (modelOf v) (drop p log)) ∷ []) (store v (decide (modelOf v) (drop p log))) (p + recordLength (drop p log))
+      → Batched (ts ++ decide (modelOf v) (drop p log) .told ∷ []) (stored v (decide (modelOf v) (drop p log))) (p + recordLength (drop p log))
   one-more ts v p few some b =
-      let a = decide (modelOf v) (drop p log) in
+      let t = decide (modelOf v) (drop p log) .told in
       let j = k + length ts in
       let number : j < lastNumber = omega (arith, may .numbers, few, so .numbered) in
       let fits : lineRoom ≤ length (b .will) - b .past = omega (arith, may .room, few, b .short, Putting.kept (b .lines), end-inside so) in
       let line = passed-line j (modelOf v) (drop p log) (omega (arith, number)) some in
-      let put = put-text (b .will) (b .past) (outcomeLine j a) (omega (arith, fits, line .short)) in
-      let long = length-append ts (told a ∷ []) in
-      let one : j + 1 ≡ k + length (ts ++ told a ∷ []) = omega (arith, long) in
+      let put = put-text (b .will) (b .past) (outcomeLine j t) (omega (arith, fits, line .short)) in
+      let long = length-append ts (t ∷ []) in
+      let one : j + 1 ≡ k + length (ts ++ t ∷ []) = omega (arith, long) in
       record {
         will = _;
         past = _;
-        lines = Putting.spelled (Putting.next (b .lines) put) (ap (_++_ (rowLines k (map rowOf ts))) (sym (line .is)) ∙ told-more k ts (told a));
+        lines = Putting.spelled (Putting.next (b .lines) put) (ap (_++_ (rowLines k (map rowOf ts))) (sym (line .is)) ∙ told-more k ts t);
         short = omega (arith, b .short, line .short, long);
         sofar = numbered-as one (passed-here (b .sofar) fits number (may .bytes) (eqb-false (recordLength (drop p log)) 0 some) put);
       }
@@ -271,10 +272,10 @@ module _ {whole : Feeding} {log : List ℕ} {at : ℕ} {before buf : List ℕ} {
         room-left = omega (arith, may .room, few, is .records, b .short, ends-there, Putting.kept lines, end-inside so)
 
         pub halted-last : {f : Fed} {after : List ℕ} → (o : Outcome) (t : Answer Told) → outcomeOf o ≡ endedTold (endOf (r .end)) t
-            → ((a : Answer Change) → outcomeOf o ≡ told a → IsFed (halted a (r .witness) (k + r .records)) (r .next) end′ buf′ f after)
+            → IsFed (halted (outcomeOf o) (r .witness) (k + r .records)) (r .next) end′ buf′ f after
             → IsFed whole at 0 before f after
-        halted-last o t says fed =
+        halted-last {f} {after} o t says fed =
             let here = many-ends log n held next .here (omega (arith, few, is .records)) in
-            let told-there = says ∙ ap (λ (e : Ended). endedTold e t) (is .end ∙ here .1) ∙ ap₂ (λ (v : Witness) (p : ℕ). told (decide (modelOf v) (drop p log))) (sym (is .witness)) (sym (is .next)) in
+            let told-there = says ∙ ap (λ (e : Ended). endedTold e t) (is .end ∙ here .1) ∙ ap₂ (λ (v : Witness) (p : ℕ). decide (modelOf v) (drop p log) .told) (sym (is .witness)) (sym (is .next)) in
             halted-here batch-here room-left (omega (arith, few, may .numbers, so .numbered)) (ap (λ (p : ℕ). recordLength (drop p log)) (is .next) ∙ here .0)
-            (fed (decide (modelOf (r .witness)) (drop (r .next) log)) told-there)
+            (subst (λ (u : Answer Told). IsFed (halted u (r .witness) (k + r .records)) (r .next) end′ buf′ f after) told-there fed)

@@ -11,22 +11,18 @@ use lib.ListN.{length, drop, length-append, List·getD-append}
 use lib.Seq.{getD-append-add, drop-append-le}
 use Rattle.model.specs.Answer.{Answer, refused, answer}
 use Rattle.model.specs.Bytes.{AreBytes}
+use Rattle.model.specs.Change.{Told, Decision}
 use Rattle.model.specs.Decide.{decide}
-use Rattle.model.specs.Limits.{rootHeight}
 use Rattle.model.specs.Log.{header, recordLength}
-use Rattle.model.specs.Model.{Model, Change, start}
+use Rattle.model.specs.Model.{Model, start}
 use Rattle.model.specs.Report.{report, reportBody, reportRun, stoppedLine, outcomeLine}
-use Rattle.model.specs.WellFormed.{WellFormed}
 use Rattle.model.proofs.Bytes.{drop-bytes}
 use Rattle.model.proofs.Lists.{clash}
-use Rattle.model.proofs.Run.{start-good}
-use Rattle.model.proofs.Sound.{true-well-formed}
-use Rattle.state.specs.State.{emptyWitness, modelOf, store}
+use Rattle.state.specs.Sound.{Sound, sound?}
+use Rattle.state.specs.State.{emptyWitness, modelOf, stored}
 use Rattle.state.specs.declared.Witness.{Witness}
-use Rattle.state.proofs.Started.{empty-model, empty-typed, header-long, header-name}
-use Rattle.reader.proofs.Runs.{Sound}
-use Rattle.witness.specs.Calls.{sound?}
-use Rattle.witness.proofs.Guarded.{sound-good}
+use Rattle.state.proofs.Sound.{true-sound}
+use Rattle.state.proofs.Started.{empty-model, empty-sound, header-long, header-name}
 use Rattle.report.specs.Feed.{Paused, wants, full, outOfNumbers, ended, refusedBy, Feeding, pausedAt, ahead, lineRoom, lastNumber, spent, halted, headed, onSound, feedFrom, openCall, feedCall, endText, endFed, endCall}
 use Rattle.report.specs.Pieces.{Piece, onward, inWant?, fedText, lastPause, endPause, InPieces, OpenWaits, FeedGoesOn, CloseEnds}
 use Rattle.report.proofs.Feeding.{Waits, fed-call}
@@ -51,11 +47,11 @@ bytes-both (x ∷ s) t b c (suc i) h = bytes-both s t (λ j l. b (suc j) (omega 
 abbrev all : List Piece → List ℕ
 all ps = flatMap (λ p. p .bytes) ps
 
-module _ (room : ℕ) (w : Witness) (sound : Sound w) (k n : ℕ) where
+module _ (room : ℕ) (w : Witness) (sound : sound? w ≡ true) (k n : ℕ) where
   close-is : (short : Bool) → ltb room (length (endText (modelOf w) k n)) ≡ short
       → endCall room w k n ≡ cond short (pausedAt [] full w k) (pausedAt (endText (modelOf w) k n) ended w k)
-  unfolding endCall endFed onSound sound?
-  close-is short e = rw (true-well-formed rootHeight (modelOf w) (sound .good), e)
+  unfolding endCall endFed onSound
+  close-is short e = rw (sound, e)
 
   -- what `close` writes, where it has room
   close-text : inWant? (endCall room w k n .paused) ≡ false → endCall room w k n .text ≡ endText (modelOf w) k n
@@ -71,7 +67,7 @@ module _ (room : ℕ) (w : Witness) (sound : Sound w) (k : ℕ) (s : List ℕ) w
   last-fed : (why : Paused) → (why ≡ wants → Waits w k s) → inWant? (onward why why why) ≡ false → inWant? (onward why why (endCall room w k (length s) .paused)) ≡ false
       → onward why [] (endCall room w k (length s) .text) ≡ onward why [] (restOfReport (modelOf w) k s)
   unfolding onward inWant?
-  last-fed wants waits fed closed = close-text room w sound k (length s) closed ∙ sym (waits refl)
+  last-fed wants waits fed closed = close-text room w (true-sound w sound) k (length s) closed ∙ sym (waits refl)
   last-fed full waits fed closed = clash refl fed
   last-fed outOfNumbers waits fed closed = clash refl fed
   last-fed ended waits fed closed = refl
@@ -105,9 +101,6 @@ pieces-fed room (p ∷ ps) why w sound k s bytes later waits fed closed =
     fed closed
 
 -- ---- from the beginning
-
-pub empty-sound : (name : List ℕ) → length name ≡ 32 → Sound (emptyWitness name)
-empty-sound name long = record { typed = empty-typed name long; good = subst (λ (m : Model). WellFormed rootHeight m) (sym (empty-model name long)) (start-good name) }
 
 report-is-rest : (log name : List ℕ) → header log ≡ answer name → restOfReport (start name) 0 (drop 37 log) ≡ report log
 unfolding restOfReport report reportBody reportRun
@@ -181,32 +174,32 @@ in-pieces log bytes room w last first ps is heads has-room (fed, closed) =
 
 -- ---- with room for a line, a record is passed
 
-halted-not-in-want : (a : Answer Change) (w : Witness) (k : ℕ) → inWant? (halted a w k .paused) ≡ false
+halted-not-in-want : (t : Answer Told) (w : Witness) (k : ℕ) → inWant? (halted t w k .paused) ≡ false
 unfolding halted inWant?
 halted-not-in-want (refused n) w k = go (eqb n 4)
   where
     go : (b : Bool) → inWant? (cond b (pausedAt (stoppedLine 4 k) ended w k) (pausedAt [] wants w k) .paused) ≡ false
     go true = refl
     go false = refl
-halted-not-in-want (answer c) w k = refl
+halted-not-in-want (answer t) w k = refl
 
 -- one reading of the call's first record
 module _ (n room : ℕ) (w : Witness) (k : ℕ) (s : List ℕ) where
-  abbrev a : Answer Change
-  a = decide (modelOf w) s
+  abbrev d : Decision
+  d = decide (modelOf w) s
 
   first-passed : (ltb room lineRoom || eqb k lastNumber) ≡ false → inWant? (feedFrom (suc n) room w k s .paused) ≡ true → 0 < feedFrom (suc n) room w k s .passed
   unfolding feedFrom
   first-passed goes e = go (ltb room lineRoom || eqb k lastNumber) (eqb (recordLength s) 0) goes refl e
     where
       later : Feeding
-      later = feedFrom n (room - length (outcomeLine k a)) (store w a) (k + 1) (drop (recordLength s) s)
+      later = feedFrom n (room - length (outcomeLine k (d .told))) (stored w d) (k + 1) (drop (recordLength s) s)
 
       go : (spent? none : Bool) → spent? ≡ false → eqb (recordLength s) 0 ≡ none
-          → inWant? (cond spent? (pausedAt [] (spent room) w k) (cond none (halted a w k) (ahead (outcomeLine k a) (recordLength s) later)) .paused) ≡ true
-          → 0 < cond spent? (pausedAt [] (spent room) w k) (cond none (halted a w k) (ahead (outcomeLine k a) (recordLength s) later)) .passed
+          → inWant? (cond spent? (pausedAt [] (spent room) w k) (cond none (halted (d .told) w k) (ahead (outcomeLine k (d .told)) (recordLength s) later)) .paused) ≡ true
+          → 0 < cond spent? (pausedAt [] (spent room) w k) (cond none (halted (d .told) w k) (ahead (outcomeLine k (d .told)) (recordLength s) later)) .passed
       go true none r e p = clash refl r
-      go false true r e p = clash p (halted-not-in-want a w k)
+      go false true r e p = clash p (halted-not-in-want (d .told) w k)
       go false false r e p = omega (arith, eqb-false (recordLength s) 0 e)
 
 pub open-waits : OpenWaits
@@ -228,6 +221,5 @@ feed-goes-on room w k s has-room number = go (sound? w)
     go false e = clash e refl
 
 pub close-ends : CloseEnds
-close-ends room w k left typed sound fits =
-    ap (λ (f : Feeding). f .paused)
-    (close-is room w (record { typed = typed; good = sound-good w typed sound }) k left false (le-ltb room (length (endText (modelOf w) k left)) fits))
+close-ends room w k left sound fits =
+    ap (λ (f : Feeding). f .paused) (close-is room w sound k left false (le-ltb room (length (endText (modelOf w) k left)) fits))

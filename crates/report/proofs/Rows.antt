@@ -12,14 +12,16 @@ use lib.ListN.{length, take, getD, length-append, length-map}
 use lib.Seq.{take-suc, length-take-le}
 use Rattle.model.specs.Answer.{Answer, refused, answer}
 use Rattle.model.specs.Bytes.{ascii}
-use Rattle.model.specs.Decide.{decideMember, decideCheckpoint, decidePlaces, decideVote, decideRecord, decide}
-use Rattle.model.specs.Log.{Record, nothingLeft, unknownKind, cutRecord, memberRecord, checkpointRecord, voteRecord, recordLength, decode}
-use Rattle.model.specs.Model.{Model, Change, nothing, addMember, addCheckpoint, addVote}
+use Rattle.model.specs.Change.{Change, Told, single}
+use Rattle.model.specs.Decide.{decideRecord, decide}
+use Rattle.model.specs.Lists.{none, each}
+use Rattle.model.specs.Log.{Record, recordLength}
+use Rattle.model.specs.Model.{Model}
 use Rattle.model.specs.Report.{digits, decimal, newline, stops?, stoppedLine, refusedLine, outcomeLine}
-use Rattle.model.specs.Run.{Told, told}
-use Rattle.model.proofs.Answer.{row-elim}
 use Rattle.model.proofs.Lists.{clash}
+use Rattle.model.proofs.Log.{decode-elim}
 use Rattle.model.proofs.Readings.{whole-goes-on}
+use Rattle.model.proofs.Rows.{member-elim, checkpoint-elim, vote-elim}
 use Rattle.reader.specs.Many.{rowOf}
 use Rattle.report.specs.Rows.{rowLine, rowLines}
 
@@ -88,47 +90,35 @@ line-short k n h l = simp length-append (omega (arith, decimal-short k h, decima
 -- ---- the row of a record that was decided
 
 -- rows have numbers from 1 to 255
-abbrev in-byte? : Answer Change → Bool
+abbrev in-byte? : Answer Told → Bool
 in-byte? (refused n) = ltb 0 n && ltb n 256
-in-byte? (answer c) = true
+in-byte? (answer t) = true
 
 module _ (m : Model) where
   abbrev InByte : Answer Change → Type 0
-  InByte a = in-byte? a ≡ true
+  InByte a = in-byte? (single a .told) ≡ true
 
-  record-row : (r : Record) → InByte (decideRecord m r)
-  unfolding decideRecord decideMember decideCheckpoint decideVote decidePlaces
-  record-row nothingLeft = refl
-  record-row unknownKind = refl
-  record-row cutRecord = refl
-  record-row (memberRecord id bond) =
-      row-elim InByte 10 _ _ refl λ _.
-      row-elim InByte 11 _ _ refl λ _.
-      row-elim InByte 12 _ _ refl λ _.
-      row-elim InByte 13 _ _ refl λ _.
-      refl
-  record-row (checkpointRecord name parent) =
-      row-elim InByte 20 _ _ refl λ _.
-      row-elim InByte 21 _ _ refl λ _.
-      row-elim InByte 22 _ _ refl λ _.
-      refl
-  record-row (voteRecord id source target sourceHeight targetHeight) =
-      row-elim InByte 30 _ _ refl λ _.
-      row-elim InByte 31 _ _ refl λ _.
-      row-elim InByte 32 _ _ refl λ _.
-      row-elim InByte 33 _ _ refl λ _.
-      row-elim InByte 34 _ _ refl λ _.
-      row-elim InByte 35 _ _ refl λ _.
-      row-elim InByte 36 _ _ refl λ _.
-      refl
+  told-row : (s : List ℕ) → in-byte? (decide m s .told) ≡ true
+  unfolding decide decideRecord single
+  told-row s =
+      decode-elim (λ (r : Record) (n : ℕ). in-byte? (decideRecord m r .told) ≡ true) s
+      (record {
+        nothing = refl;
+        unknown = refl;
+        cut = refl;
+        member = λ _. member-elim m InByte _ (each refl (each refl (each refl (each refl none)))) (λ _. refl);
+        checkpoint = λ _. checkpoint-elim m InByte _ _ (each refl (each refl (each refl none))) (λ _. refl);
+        vote = λ _.
+            vote-elim m InByte _ _ _ _ _ (each refl (each refl (each refl (each refl (each refl (each refl (each refl none))))))) (λ _ _. refl);
+      })
 
 -- the line of a record that is passed is that of its row
-pub record LineOf (k : ℕ) (a : Answer Change) : Type 0 where
-  pub is : rowLine k (rowOf (told a)) ≡ outcomeLine k a
-  pub short : length (outcomeLine k a) ≤ 64
+pub record LineOf (k : ℕ) (t : Answer Told) : Type 0 where
+  pub is : rowLine k (rowOf t) ≡ outcomeLine k t
+  pub short : length (outcomeLine k t) ≤ 64
 
-line-of : (k : ℕ) (a : Answer Change) → k < 2 ^ 64 → in-byte? a ≡ true → stops? a ≡ false → LineOf k a
-unfolding outcomeLine told
+line-of : (k : ℕ) (t : Answer Told) → k < 2 ^ 64 → in-byte? t ≡ true → stops? t ≡ false → LineOf k t
+unfolding outcomeLine
 line-of k (refused n) few row goes =
     let both = and-true (ltb 0 n) (ltb n 256) row in
     let named : (n ≡ 0 → ⊥) = λ e. omega (arith, ltb-true 0 n (both .0), e) in
@@ -137,11 +127,7 @@ line-of k (refused n) few row goes =
       is = sym (row-some k n named) ∙ sym line;
       short = omega (arith, ap length line, line-short k n few (omega (arith, ltb-true n 256 (both .1))));
     }
-line-of k (answer nothing) few row goes = record { is = refl; short = omega arith }
-line-of k (answer (addMember x)) few row goes = record { is = refl; short = omega arith }
-line-of k (answer (addCheckpoint x)) few row goes = record { is = refl; short = omega arith }
-line-of k (answer (addVote x)) few row goes = record { is = refl; short = omega arith }
+line-of k (answer t) few row goes = record { is = refl; short = omega arith }
 
-pub passed-line : (k : ℕ) (m : Model) (s : List ℕ) → k < 2 ^ 64 → eqb (recordLength s) 0 ≡ false → LineOf k (decide m s)
-unfolding decide
-passed-line k m s few some = line-of k (decide m s) few (record-row m (decode s)) (whole-goes-on m s some)
+pub passed-line : (k : ℕ) (m : Model) (s : List ℕ) → k < 2 ^ 64 → eqb (recordLength s) 0 ≡ false → LineOf k (decide m s .told)
+passed-line k m s few some = line-of k (decide m s .told) few (told-row m s) (whole-goes-on m s some)

@@ -6,15 +6,16 @@ use mathlib.Core.Bool.{Bool, cond, not, _&&_, _||_}
 use lib.Dec.{eqb, ltb}
 use lib.ListN.{length, drop}
 use Rattle.model.specs.Answer.{Answer, refused, answer}
+use Rattle.model.specs.Change.{Told}
 use Rattle.model.specs.Decide.{decide}
 use Rattle.model.specs.Log.{header, recordLength}
-use Rattle.model.specs.Model.{Model, Change}
+use Rattle.model.specs.Model.{Model}
 use Rattle.model.specs.Refusals.{refusalNumber}
 use Rattle.model.specs.Report.{summary, stoppedLine, outcomeLine}
-use Rattle.state.specs.State.{emptyWitness, modelOf, store}
+use Rattle.state.specs.State.{emptyWitness, modelOf, stored}
 use Rattle.state.specs.declared.Witness.{Witness}
 use Rattle.text.specs.Put.{Put}
-use Rattle.witness.specs.Calls.{sound?}
+use Rattle.state.specs.Sound.{sound?}
 use Rattle.report.specs.declared.Fed.{Fed}
 use Rattle.report.specs.declared.Pause.{Pause}
 use Rattle.report.specs.declared.Pause.the-variants.{Wants, Full, OutOfNumbers, Ended, Refused}
@@ -58,20 +59,20 @@ abbrev pub spent : ℕ → Paused
 spent room = cond (ltb room lineRoom) full outOfNumbers
 
 -- where no record can be passed: an unknown kind ends the report; a cut record may be whole with the next piece
-unfoldable pub halted : Answer Change → Witness → ℕ → Feeding
+unfoldable pub halted : Answer Told → Witness → ℕ → Feeding
 halted (refused n) w k = cond (eqb n 4) (pausedAt (stoppedLine 4 k) ended w k) (pausedAt [] wants w k)
-halted (answer c) w k = pausedAt [] wants w k
+halted (answer t) w k = pausedAt [] wants w k
 
 -- Record k and those after it, from the bytes s, with so much room in the buffer; n bounds how many.
 unfoldable pub feedFrom : ℕ → ℕ → Witness → ℕ → List ℕ → Feeding
 feedFrom zero room w k s = pausedAt [] wants w k
 feedFrom (suc n) room w k s =
-    let a = decide (modelOf w) s in
-    let line = outcomeLine k a in
+    let d = decide (modelOf w) s in
+    let line = outcomeLine k (d .told) in
     let size = recordLength s in
     cond (ltb room lineRoom || eqb k lastNumber) (pausedAt [] (spent room) w k)
-    (cond (eqb size 0) (halted a w k)
-    (ahead line size (feedFrom n (room - length line) (store w a) (k + 1) (drop size s))))
+    (cond (eqb size 0) (halted (d .told) w k)
+    (ahead line size (feedFrom n (room - length line) (stored w d) (k + 1) (drop size s))))
 
 -- row 40 before everything else
 unfoldable pub onSound : Witness → ℕ → Feeding → Feeding

@@ -7,9 +7,9 @@ use mathlib.Core.Bool.{Bool, true, false}
 use lib.ListN.{length, drop}
 use Rattle.model.specs.Bytes.{AreBytes}
 use Rattle.model.specs.Report.{report}
-use Rattle.state.specs.State.{Typed, modelOf}
+use Rattle.state.specs.State.{modelOf}
 use Rattle.state.specs.declared.Witness.{Witness}
-use Rattle.witness.specs.Calls.{sound?}
+use Rattle.state.specs.Sound.{sound?}
 use Rattle.report.specs.Feed.{Paused, wants, full, outOfNumbers, ended, refusedBy, Feeding, pausedAt, lineRoom, lastNumber, openCall, feedCall, endText, endCall}
 
 -- a call of `open` or `feed`: the room in its buffer, and the bytes that were added to what the last call left
@@ -95,4 +95,4 @@ FeedGoesOn = (room : ℕ) (w : Witness) (k : ℕ) (s : List ℕ) → lineRoom �
 
 -- A call of `close` with room for its text ends the report. No summary has more than 65,536 bytes (crate summary).
 abbrev pub CloseEnds : Type 0
-CloseEnds = (room : ℕ) (w : Witness) (k left : ℕ) → Typed w → sound? w ≡ true → length (endText (modelOf w) k left) ≤ room → endCall room w k left .paused ≡ ended
+CloseEnds = (room : ℕ) (w : Witness) (k left : ℕ) → sound? w ≡ true → length (endText (modelOf w) k left) ≤ room → endCall room w k left .paused ≡ ended

@@ -8,13 +8,9 @@ ghost use mathlib.Core.Path.{_≡_};
 ghost use Prim.Native.Nat.{ℕ, _+_, _*_, _<_, _≤_};
 ghost use lib.ListN.{length, drop};
 ghost use mathlib.Core.List.{List, []};
-ghost use Rattle.model.specs.Answer.{Answer};
-ghost use Rattle.model.specs.Limits.{rootHeight};
-ghost use Rattle.model.specs.Model.{Change};
-ghost use Rattle.model.specs.Run.{told};
-ghost use Rattle.model.specs.WellFormed.{WellFormed};
 ghost use Rattle.state.specs.Reading.{outcomeOf};
-ghost use Rattle.state.specs.State.{Typed, modelOf};
+ghost use Rattle.state.specs.State.{modelOf};
+ghost use Rattle.state.specs.Sound.{Sound};
 ghost use Rattle.text.specs.Put.{Put};
 ghost use Rattle.report.specs.Feed.{refusedBy, pausedAt, lineRoom, lastNumber, spent, pausedOf, halted, feedFrom};
 ghost use Rattle.report.specs.Feed.{openCall, feedCall, endText, endFed, endCall, IsFed};
@@ -86,9 +82,7 @@ fn refused_lines(buf: &mut [u8], at: usize, k: u64, rows: &[u8]) -> usize
 fn halt(w: Witness, buf: &mut [u8], at: usize, next: usize, k: u64, o: Outcome) -> Fed
     requires { ⌜ at + 64 ≤ length (now buf) ⌝ }
     ensures { λ r. ⌜
-        ((a : Answer Change)
-        → outcomeOf o ≡ told a
-        → IsFed (halted a w k) next at (now (buf .entry)) r (now (buf .exit)))
+        IsFed (halted (outcomeOf o) w k) next at (now (buf .entry)) r (now (buf .exit))
         ⌝ }
 {
     match o {
@@ -129,7 +123,7 @@ fn why_spent(room: usize) -> Pause
 // Record after record from `at` on, into a sound witness, with the lines of those that are refused. They are read many
 // at a time: a call that took the state and gave it back for each record would copy it each time.
 fn read_on(w: Witness, records: u64, log: &[u8], at: usize, buf: &mut [u8]) -> Fed
-    requires { ⌜ Typed w × WellFormed rootHeight (modelOf w) ⌝ }
+    requires { ⌜ Sound w ⌝ }
     ensures { λ r. ⌜
         IsFed
         (feedFrom (length (drop at (now (log .entry))) + 1) (length (now (buf .entry))) w records
@@ -250,7 +244,7 @@ pub fn feed(w: Witness, records: u64, log: &[u8], at: usize, buf: &mut [u8]) -> 
 
 // The last text of a report: the line of a record that stays cut, or the summary.
 fn last_text(w: Witness, records: u64, left: usize, text: &mut [u8]) -> usize
-    requires { ⌜ Typed w × WellFormed rootHeight (modelOf w) × (65536 ≤ length (now text)) ⌝ }
+    requires { ⌜ Sound w × (65536 ≤ length (now text)) ⌝ }
     ensures { λ r. ⌜ Put (now (text .entry)) 0 (endText (modelOf w) records left) (now (text .exit)) r ⌝ }
 {
     if left == 0 {
@@ -262,7 +256,7 @@ fn last_text(w: Witness, records: u64, left: usize, text: &mut [u8]) -> usize
 // The last text, into a buffer that may be too short for it; it is made elsewhere first, so that nothing is written
 // then.
 fn put_end(w: Witness, records: u64, left: usize, buf: &mut [u8]) -> Fed
-    requires { ⌜ Typed w × WellFormed rootHeight (modelOf w) ⌝ }
+    requires { ⌜ Sound w ⌝ }
     ensures { λ r. ⌜
         IsFed (endFed (length (now (buf .entry))) w records left) 0 0 (now (buf .entry)) r (now (buf .exit))
         ⌝ }

@@ -4,21 +4,23 @@ use mathlib.Core.Path.{_≡_, sym, ap, ap₂, _∙_}
 use mathlib.Core.List.{List}
 use mathlib.Core.Bool.{Bool, true, false, _&&_, _||_, not}
 use borrow.Author.Tests.{eq-eqb, ne-eqb, lt-ltb, le-ltb}
-use lib.ListN.{length, drop, getD}
+use lib.ListN.{length, drop}
 use lib.Dec.{eqb, ltb, leb}
 use Rattle.model.specs.Answer.{answer, row}
 use Rattle.model.specs.Bytes.{field, part}
-use Rattle.model.specs.Decide.{membersFixed, bondOutOfRange, idHeld, nameHeld, decideMember, decideCheckpoint, decideVote, heightsAgree, decidePlaces}
+use Rattle.model.specs.Change.{addMember, addCheckpoint}
+use Rattle.model.specs.Decide.{membersFixed, bondOutOfRange, decideMember, decideCheckpoint, heightsAgree, voteBetween, voteOf}
 use Rattle.model.specs.Lists.{firstIndex, sameBytes}
-use Rattle.model.specs.Limits.{bondLimit, memberLimit, checkpointLimit, voteLimit}
-use Rattle.model.specs.Model.{Model, Member, Vote, addMember, addCheckpoint, addVote, heightOf, placeOf, voteHeld}
+use Rattle.model.specs.Limits.{bondLimit, memberLimit, checkpointLimit}
+use Rattle.model.specs.Model.{Model, Member, Vote, heightOf, placeOf, idHeld, nameHeld, voteFor, voteHeld}
 use Rattle.model.specs.Tree.{ancestor?}
 use Rattle.model.specs.declared.Height.{Height}
 use Rattle.model.specs.declared.Place.{Place}
 use Rattle.model.proofs.Lists.{or-left, or-right}
+use Rattle.tables.specs.Places.{heightAt}
 use Rattle.tables.specs.Rows.{rows}
-use Rattle.state.specs.State.{height}
 use Rattle.state.specs.Tables.{NamesHeld, HeightsHeld, Held}
+use Rattle.state.specs.declared.Counts.{Counts}
 use Rattle.state.proofs.Fields.{part-at, field-at}
 
 -- the member that the code read is the record's
@@ -27,8 +29,8 @@ pub member-read : (at : ℕ) (log : List ℕ) {id bond : ℕ} → id ≡ field (
 member-read at log p q = λ i. record { id = (p ∙ sym (field-at at 1 2 log)) i; bond = (q ∙ sym (field-at at 3 8 log)) i }
 
 -- row 10's condition, of the counts
-pub members-fixed : {m : Model} {ids names keys : List ℕ} {members checkpoints votes : ℕ} {parents : List Place} {heights : List Height}
-    → Held m ids members names parents heights checkpoints keys votes → membersFixed m ≡ (ltb 0 votes || ltb 1 checkpoints)
+pub members-fixed : {m : Model} {n : Counts} {ids names keys : List ℕ} {parents : List Place} {heights : List Height}
+    → Held m n ids names parents heights keys → membersFixed m ≡ (ltb 0 (n .votes) || ltb 1 (n .checkpoints))
 unfolding membersFixed
 members-fixed held = ap₂ (λ (v c : ℕ). ltb 0 v || ltb 1 c) (held .keys-held .count) (held .names-held .count)
 
@@ -85,6 +87,7 @@ checkpoint-taken m name parent e20 e21 e22 ep eh =
     sym (checkpoint-rows m name parent e20 e21 e22
     ∙ λ i. answer (addCheckpoint (record { name = name; parent = ep i; height = (ap (heightOf (m .checkpoints)) ep ∙ eh) i + 1 })))
 
+-- the vote that the code found is the record's
 pub vote-rows : (m : Model) (id : ℕ) (source target : List ℕ) (sourceHeight targetHeight : ℕ) {b30 b31 b32 : Bool} {i s t : ℕ}
     → id ≡ i
     → idHeld m id ≡ b30
@@ -92,29 +95,24 @@ pub vote-rows : (m : Model) (id : ℕ) (source target : List ℕ) (sourceHeight 
     → nameHeld m target ≡ b32
     → placeOf (m .checkpoints) source ≡ s
     → placeOf (m .checkpoints) target ≡ t
-    → decideVote m id source target sourceHeight targetHeight
-    ≡ row 30 (not b30) (row 31 (not b31) (row 32 (not b32) (decidePlaces m (record { voter = i; source = s; target = t }) sourceHeight targetHeight)))
-unfolding decideVote
+    → voteOf m id source target sourceHeight targetHeight
+    ≡ row 30 (not b30) (row 31 (not b31) (row 32 (not b32) (voteBetween m (voteFor i s t) sourceHeight targetHeight)))
+unfolding voteOf
 vote-rows m id source target sourceHeight targetHeight {b30} {b31} {b32} e e30 e31 e32 es et =
     rw (e30, e31, e32)
-    (ap (λ (v : Vote). row 30 (not b30) (row 31 (not b31) (row 32 (not b32) (decidePlaces m v sourceHeight targetHeight))))
+    (ap (λ (v : Vote). row 30 (not b30) (row 31 (not b31) (row 32 (not b32) (voteBetween m v sourceHeight targetHeight))))
     (λ k. record { voter = e k; source = es k; target = et k }))
 
-pub places-rows : (m : Model) (v : Vote) (h k : ℕ) {b33 b34 b35 b36 : Bool}
+pub places-rows : (m : Model) (v : Vote) (h k : ℕ) {b33 b34 b35 : Bool}
     → heightsAgree m v h k ≡ b33
     → ancestor? (m .checkpoints) (v .source) (v .target) ≡ b34
     → voteHeld (m .votes) v ≡ b35
-    → leb voteLimit (length (m .votes)) ≡ b36
-    → decidePlaces m v h k ≡ row 33 (not b33) (row 34 (not b34) (row 35 b35 (row 36 b36 (answer (addVote v)))))
-unfolding decidePlaces
-places-rows m v h k e33 e34 e35 e36 = rw (e33, e34, e35, e36)
+    → voteBetween m v h k ≡ row 33 (not b33) (row 34 (not b34) (row 35 b35 (answer v)))
+unfolding voteBetween
+places-rows m v h k e33 e34 e35 = rw (e33, e34, e35)
 
 -- the heights given, against those of the table
-module _ {m : Model} {heights : List Height} {n : ℕ} (held : HeightsHeld m heights n) (v : Vote) (h k : ℕ) where
-  pub wrong-source : v .source < n → (h ≡ getD heights (v .source) (height 0) .0 → ⊥) → heightsAgree m v h k ≡ false
-  unfolding heightsAgree
-  wrong-source inside differ = ap (λ (b : Bool). b && eqb k (heightOf (m .checkpoints) (v .target))) (ne-eqb _ _ (λ e. differ (e ∙ held .height (v .source) inside)))
-
-  pub heights-agree : v .source < n → v .target < n → h ≡ getD heights (v .source) (height 0) .0 → (b : Bool) → eqb k (getD heights (v .target) (height 0) .0) ≡ b → heightsAgree m v h k ≡ b
-  unfolding heightsAgree
-  heights-agree s t p b q = ap₂ _&&_ (eq-eqb _ _ (p ∙ sym (held .height (v .source) s))) (ap (eqb k) (held .height (v .target) t) ∙ q)
+pub heights-are : {m : Model} {heights : List Height} {n : ℕ} → HeightsHeld m heights n → (v : Vote) (h k : ℕ) → v .source < n → v .target < n
+    → heightsAgree m v h k ≡ (eqb h (heightAt heights (v .source)) && eqb k (heightAt heights (v .target)))
+unfolding heightsAgree
+heights-are held v h k s t = ap₂ (λ (x y : ℕ). eqb h x && eqb k y) (held .height (v .source) s) (held .height (v .target) t)

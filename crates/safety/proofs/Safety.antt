@@ -1,30 +1,91 @@
 -- Accountable safety, source document 002, theorem 1, with bonds as weights: if two final checkpoints conflict, the
 -- members whose votes break a slashing condition hold at least a third of all bonds; our list names them and passes.
-use Prim.Native.Nat.{ℕ, _*_, _≤_}
+use Prim.Native.Nat.{ℕ, _+_, _*_, _<_, _≤_}
 use native.Mathlib.Nat.{mul-le-mul-left, le-trans}
-use mathlib.Core.Path.{_≡_, sym, ap, subst₂}
+use native.Mathlib.Omega.{arith}
+use mathlib.Core.Path.{_≡_, refl, sym, ap, subst₂}
+use mathlib.Core.Logic.{⊎-elim}
 use mathlib.Core.Bool.{Bool, true, _&&_}
 use Rattle.model.specs.Evidence.{violator?}
 use Rattle.model.specs.Exact.{Violation}
-use Rattle.model.specs.Finality.{ConflictingFinals}
-use Rattle.model.specs.Limits.{rootHeight}
-use Rattle.model.specs.Model.{Model, Member, Vote, start, voteFor}
+use Rattle.model.specs.Finality.{Final, ConflictingFinals}
+use Rattle.model.specs.Model.{Model, Member, Vote, heightOf, start, voteFor}
 use Rattle.model.specs.Run.{after}
-use Rattle.model.specs.Slashing.{Breaks}
+use Rattle.model.specs.Slashing.{Breaks, Condition, other-source, other-target, double, surrounds}
 use Rattle.model.specs.Support.{Link, sum, supports, total}
 use Rattle.model.specs.WellFormed.{WellFormed}
 use Rattle.model.proofs.Charges.{true-guilty}
 use Rattle.model.proofs.Checker.{our-list-passes, checker-exact}
 use Rattle.model.proofs.Conduct.{two-votes, true-violator}
-use Rattle.model.proofs.Lists.{and-left, and-right, all-map}
+use Rattle.model.proofs.Lists.{and-left, and-right, all-map, lt-or-ge}
 use Rattle.model.proofs.Run.{reached-good}
-use Rattle.model.proofs.Support.{Held, supports-held, link-quorum, link-climbs}
+use Rattle.model.proofs.Support.{Held, supports-held, link-carries, link-climbs}
+use Rattle.model.proofs.Tree.{child-higher}
 use Rattle.safety.specs.Share.{AccountableSafety, NoInnocentNamed}
-use Rattle.safety.proofs.Crossing.{CrossingLinks, crossing-links}
-use Rattle.safety.proofs.Weight.{quorums-share, sum-mono}
+use Rattle.safety.proofs.Crossing.{finals-cross}
+use Rattle.safety.proofs.Weight.{carriers-share, sum-mono}
+
+-- two links s1 → t1 and s2 → t2: whoever votes for both breaks a slashing condition
+record CrossingLinks (m : Model) : Type 0 where
+  pub s1 : ℕ
+  pub t1 : ℕ
+  pub s2 : ℕ
+  pub t2 : ℕ
+  pub one : Link m s1 t1
+  pub other : Link m s2 t2
+  pub breaks : (id : ℕ) → Breaks m (voteFor id s1 t1) (voteFor id s2 t2)
+
+module _ (m : Model) (good : WellFormed m) where
+  abbrev h : ℕ → ℕ
+  h p = heightOf (m .checkpoints) p
+
+  -- property (iv), "at most one justified checkpoint with height n": the links into two of them cross
+  same-height : (s1 t1 s2 t2 : ℕ) → Link m s1 t1 → Link m s2 t2 → (t1 ≡ t2 → ⊥) → h t1 ≡ h t2 → CrossingLinks m
+  same-height s1 t1 s2 t2 l1 l2 differ level =
+      record {
+        s1 = s1;
+        t1 = t1;
+        s2 = s2;
+        t2 = t2;
+        one = l1;
+        other = l2;
+        breaks = λ id. record { one-voter = refl; distinct = other-target differ; condition = double (record { equal = level }) };
+      }
+
+  -- a link from below a final checkpoint a to above it crosses the link from a to its child: it ends at the child's
+  -- height, or it surrounds that link
+  passing-over : (a s t : ℕ) → Final m a → Link m s t → h s < h a → h a < h t → CrossingLinks m
+  passing-over a s t f l below above =
+      record {
+        s1 = s;
+        t1 = t;
+        s2 = a;
+        t2 = f .child;
+        one = l;
+        other = f .linked;
+        breaks = λ id. record { one-voter = refl; distinct = other-source sources-differ; condition = condition id };
+      }
+    where
+      child-above : h (f .child) ≡ h a + 1
+      child-above = child-higher (m .checkpoints) (good .tree) (f .direct)
+
+      sources-differ : s ≡ a → ⊥
+      sources-differ e = omega (arith, ap h e)
+
+      condition : (id : ℕ) → Condition m (voteFor id s t) (voteFor id a (f .child))
+      condition id =
+          ⊎-elim
+          (λ higher. surrounds (record { below = below; inside = omega (arith, child-above); above = higher }))
+          (λ no-higher. double (record { equal = omega (arith, child-above) }))
+          (lt-or-ge (h (f .child)) (h t))
+
+  crossing-links : ConflictingFinals m → CrossingLinks m
+  crossing-links c =
+      finals-cross (m .checkpoints) (good .tree) (Link m) (link-climbs m good) (CrossingLinks m) (Final m) same-height passing-over
+      (c .one) (c .other) (c .one-final .justified) (c .one-final) (c .other-final .justified) (c .other-final) (c .conflict)
 
 -- who supports both of two crossing links holds two votes that break
-supports-both : (m : Model) (x : Member) (c : CrossingLinks (m .checkpoints) (Link m)) →
+supports-both : (m : Model) (x : Member) (c : CrossingLinks m) →
     supports m (c .s1) (c .t1) x ≡ true → supports m (c .s2) (c .t2) x ≡ true → Violation m (x .id)
 supports-both m x c one other = pair (supports-held m (c .s1) (c .t1) x one) (supports-held m (c .s2) (c .t2) x other)
   where
@@ -32,16 +93,16 @@ supports-both m x c one other = pair (supports-held m (c .s1) (c .t1) x one) (su
     pair p q =
         two-votes m (x .id) (p .number) (q .number) (p .inside) (q .inside)
         (ap (λ (v : Vote). v .voter) (p .is))
-        (subst₂ (Breaks (m .checkpoints)) (sym (p .is)) (sym (q .is)) (c .breaks (x .id)))
+        (subst₂ (Breaks m) (sym (p .is)) (sym (q .is)) (c .breaks (x .id)))
 
-pub share-of-violators : (root : ℕ) (m : Model) → WellFormed root m → ConflictingFinals m → total (m .members) ≤ 3 * sum (violator? m) (m .members)
-share-of-violators root m good finals =
+pub share-of-violators : (m : Model) → WellFormed m → ConflictingFinals m → total (m .members) ≤ 3 * sum (violator? m) (m .members)
+share-of-violators m good finals =
     le-trans
-    (quorums-share one other (m .members) (link-quorum m (c .s1) (c .t1) (c .one)) (link-quorum m (c .s2) (c .t2) (c .other)))
+    (carriers-share m (c .t1) (c .t2) one other (link-carries m (c .s1) (c .t1) (c .one)) (link-carries m (c .s2) (c .t2) (c .other)))
     (mul-le-mul-left 3 (sum-mono in-both (m .members)))
   where
-    c : CrossingLinks (m .checkpoints) (Link m)
-    c = crossing-links root (m .checkpoints) (good .tree) (Link m) (link-climbs root m good) (finals .one-final) (finals .other-final) (finals .conflict)
+    c : CrossingLinks m
+    c = crossing-links m good finals
 
     one : Member → Bool
     one = supports m (c .s1) (c .t1)
@@ -56,7 +117,7 @@ pub accountable-safety : AccountableSafety
 accountable-safety name es bytes finals =
     let m = after (start name) es in
     let good = reached-good name es bytes in
-    record { named = sum (violator? m) (m .members); passes = our-list-passes rootHeight m good; share = share-of-violators rootHeight m good finals }
+    record { named = sum (violator? m) (m .members); passes = our-list-passes m good; share = share-of-violators m good finals }
 
 pub no-innocent-named : NoInnocentNamed
 no-innocent-named m l s bytes passes =

@@ -5,9 +5,9 @@ use native.Mathlib.Omega.{arith}
 use mathlib.Core.Path.{_≡_, refl}
 use mathlib.Core.List.{List, [], _∷_}
 use mathlib.Core.Bool.{Bool, true, false, cond, _&&_, false≢true}
-use Rattle.model.specs.Model.{Member}
-use Rattle.model.specs.Support.{sum, total, quorum}
-use Rattle.model.proofs.Support.{quorum-parts}
+use Rattle.model.specs.Model.{Model, Member}
+use Rattle.model.specs.Support.{sum, total, carries}
+use Rattle.model.proofs.Support.{carries-parts}
 
 -- only what stands in both sets is counted twice
 pub overlap : (A B : Member → Bool) (ms : List Member) → sum A ms + sum B ms ≤ total ms + sum (λ x. A x && B x) ms
@@ -50,7 +50,9 @@ sum-mono {A} {B} h (x ∷ xs) = go (sum-mono h xs) (A x) (B x) (h x)
     go ih false true k = omega arith
     go ih false false k = omega arith
 
--- at the quorum of the base, 2 of 3: at least a third is in both
-pub quorums-share : (A B : Member → Bool) (ms : List Member) →
-    quorum (sum A ms) (total ms) ≡ true → quorum (sum B ms) (total ms) ≡ true → total ms ≤ 3 * sum (λ x. A x && B x) ms
-quorums-share A B ms a b = omega (arith, shared 2 3 A B ms (quorum-parts (sum A ms) (total ms) a .1) (quorum-parts (sum B ms) (total ms) b .1))
+-- two sets that carry a checkpoint each, by the quorum of 2 of 3: at least a third is in both
+pub carriers-share : (m : Model) (t u : ℕ) (A B : Member → Bool)
+    → carries m t A ≡ true → carries m u B ≡ true → total (m .members) ≤ 3 * sum (λ x. A x && B x) (m .members)
+carriers-share m t u A B a b =
+    let ms = m .members in
+    omega (arith, shared 2 3 A B ms (carries-parts m t A a .1) (carries-parts m u B b .1))

@@ -1,7 +1,7 @@
 // The two slashing conditions, by the heights of two distinct votes of one member.
 use model::Height;
 ghost use mathlib.Core.Path.{_≡_};
-ghost use Rattle.slashing.specs.Heights.{surround, heightsBreak};
+ghost use Rattle.model.specs.Slashing.{surround, heightsBreak};
 
 // Whether a vote s1 -> t1 surrounds a vote s2 -> t2: condition II, in one order.
 fn surrounds(s1: Height, t1: Height, s2: Height, t2: Height) -> bool

@@ -1,35 +1,37 @@
--- Row 40's tests on the model are the tests over the arrays that hold it.
-use Prim.Native.Nat.{ℕ, zero, suc, _+_, _*_, _<_, _≤_}
+-- Row 40's parts of the model are its parts of the arrays that hold it, and the four together are the row.
+use Prim.Native.Nat.{ℕ, _+_, _<_, _≤_}
 use native.Mathlib.Omega.{arith}
 use mathlib.Core.Path.{_≡_, refl, sym, ap, ap₂, _∙_}
-use mathlib.Core.List.{List, [], _∷_}
-use mathlib.Core.Bool.{Bool, true, false, _&&_, _||_, not, true≢false}
-use borrow.Author.Tests.{ltb-true, lt-ltb}
-use lib.ListN.{length, getD}
+use mathlib.Core.List.{List}
+use mathlib.Core.Bool.{Bool, true, false, _&&_, _||_, not}
+use borrow.Author.Tests.{ltb-true, leb-true}
+use lib.ListN.{length}
 use lib.Dec.{eqb, ltb, leb}
-use Rattle.model.specs.Bytes.{part}
-use Rattle.model.specs.Limits.{bondLimit, memberLimit, checkpointLimit, voteLimit, rootHeight}
-use Rattle.model.specs.Lists.{allOf, allBelow, pairBelow, sameBytes}
-use Rattle.model.specs.Model.{Member, Checkpoint, Vote, memberAt, checkpointAt, voteAt, heightOf, parentOf, sameVote, noMember, noCheckpoint, noVote}
-use Rattle.model.specs.WellFormed.{bonds?, tree?, vote?, votes?, idTwice?, nameTwice?, voteTwice?, wellFormed?}
-use Rattle.model.proofs.Lists.{tabulate-at}
-use Rattle.tables.specs.Places.{placeAt, heightAt, isStep, isVote, isSound}
+use Rattle.model.specs.Limits.{bondLimit, memberLimit, checkpointLimit, voteLimit, rootHeightLimit}
+use Rattle.model.specs.Lists.{allBelow, pairBelow, sameBytes}
+use Rattle.model.specs.Model.{Checkpoint, Vote, heightOf, parentOf, sameVote}
+use Rattle.model.specs.WellFormed.{counts?, members?, tree?, vote?, votes?, wellFormed?}
+use Rattle.model.specs.WellFormed.{bonds?, idTwice?, steps?, nameTwice?, voteTwice?}
+use Rattle.model.proofs.Lists.{and-left, and-right}
+use Rattle.tables.specs.Places.{Falling, placeAt, heightAt, isStep, isSound}
+use Rattle.tables.proofs.Steps.{sound-falls}
 use Rattle.search.proofs.Pointwise.{all-same, pair-same}
-use Rattle.state.specs.State.{modelOf, memberIn, checkpointIn, voteIn}
+use Rattle.state.specs.Sound.{sound?}
+use Rattle.state.specs.State.{modelOf, voteIn}
 use Rattle.state.specs.declared.Witness.{Witness}
 use Rattle.state.proofs.Held.{held-id, members-held, ancestors-held}
-use Rattle.state.proofs.Kept.{count-members, count-checkpoints, count-votes}
+use Rattle.state.proofs.Entries.{count-members, count-checkpoints, count-votes, member-is, checkpoint-is, vote-is}
+use Rattle.sound.specs.Parts.{countsPass, membersPass, treePasses, votesPass}
 
-and-true : (b : Bool) → b ≡ (b && true)
-and-true true = refl
-and-true false = refl
+-- a test of the entries of a list is the test of what they are
+module _ {A : Type 0} {at f : ℕ → A} {m n : ℕ} (count : m ≡ n) (is : (i : ℕ) → i < n → at i ≡ f i) where
+  all-are : (p : ℕ → A → Bool) → allBelow m (λ i. p i (at i)) ≡ allBelow n (λ i. p i (f i))
+  all-are p = ap (λ (k : ℕ). allBelow k (λ i. p i (at i))) count ∙ all-same n _ _ (λ i h. ap (p i) (is i h))
 
-and-false : (b : Bool) → (b && false) ≡ false
-and-false true = refl
-and-false false = refl
-
-pub pos-ltb : (n : ℕ) → (n ≡ 0 → ⊥) → ltb 0 n ≡ true
-pos-ltb n h = lt-ltb 0 n (omega arith)
+  pairs-are : (p : A → A → Bool) → pairBelow m (λ i j. p (at i) (at j)) ≡ pairBelow n (λ i j. p (f i) (f j))
+  pairs-are p =
+      ap (λ (k : ℕ). pairBelow k (λ i j. p (at i) (at j))) count
+      ∙ pair-same n _ _ (λ i j h l. ap₂ p (is i (omega arith)) (is j l))
 
 -- what stands behind a test that fails does not matter
 guarded : (p i : ℕ) {x y : Bool} → (p < i → x ≡ y) → (ltb p i && x) ≡ (ltb p i && y)
@@ -39,126 +41,104 @@ guarded p i {x} {y} same = go (ltb p i) refl
     go true e = ap (λ (z : Bool). ltb p i && z) (same (ltb-true p i e))
     go false e = rw e
 
+-- counts that pass
+pub record Few (w : Witness) : Type 0 where
+  pub rooted : 0 < w .«checkpoint_count»
+  pub members : w .«member_count» ≤ memberLimit
+  pub checkpoints : w .«checkpoint_count» ≤ checkpointLimit
+  pub votes : w .«vote_count» ≤ voteLimit
+
+pub few : (w : Witness) → countsPass (w .«member_count») (w .«checkpoint_count») (w .«vote_count») ≡ true → Few w
+few w e =
+    let first = ltb 0 (w .«checkpoint_count») in
+    let second = leb (w .«member_count») memberLimit in
+    let third = leb (w .«checkpoint_count») checkpointLimit in
+    let three = and-left (first && second && third) _ e in
+    let two = and-left (first && second) third three in
+    record {
+      rooted = ltb-true _ _ (and-left first second two);
+      members = leb-true _ _ (and-right first second two);
+      checkpoints = leb-true _ _ (and-right (first && second) third three);
+      votes = leb-true _ _ (and-right (first && second && third) _ e);
+    }
+
 module _ (w : Witness) where
-  member-is : (i : ℕ) → i < w .«member_count» → memberAt (modelOf w .members) i ≡ memberIn w i
-  unfolding modelOf memberAt
-  member-is i h = tabulate-at (w .«member_count») (memberIn w) noMember i h
+  -- the row is its four parts
+  pub parts : {a b c d : Bool}
+      → counts? (modelOf w) ≡ a
+      → members? (modelOf w .members) ≡ b
+      → tree? (modelOf w .checkpoints) ≡ c
+      → votes? (modelOf w) ≡ d
+      → (a && b && c && d) ≡ sound? w
+  unfolding sound? wellFormed?
+  parts e₁ e₂ e₃ e₄ = sym (rw (e₁, e₂, e₃, e₄))
 
-  checkpoint-is : (i : ℕ) → i < w .«checkpoint_count» → checkpointAt (modelOf w .checkpoints) i ≡ checkpointIn w i
-  unfolding modelOf checkpointAt
-  checkpoint-is i h = tabulate-at (w .«checkpoint_count») (checkpointIn w) noCheckpoint i h
+  pub counts-are : counts? (modelOf w) ≡ countsPass (w .«member_count») (w .«checkpoint_count») (w .«vote_count»)
+  unfolding counts?
+  counts-are = rw (count-members w, count-checkpoints w, count-votes w)
 
-  vote-is : (k : ℕ) → k < w .«vote_count» → voteAt (modelOf w .votes) k ≡ voteIn w k
-  unfolding modelOf voteAt
-  vote-is k h = tabulate-at (w .«vote_count») (voteIn w) noVote k h
+  pub members-are : members? (modelOf w .members) ≡ membersPass (w .ids) (w .bonds) (w .«member_count»)
+  unfolding members? bonds? idTwice?
+  members-are =
+      ap₂ (λ (a b : Bool). a && not b)
+      (all-are (count-members w) (member-is w) (λ i x. ltb 0 (x .bond) && leb (x .bond) bondLimit))
+      (pairs-are (count-members w) (member-is w) (λ x y. eqb (x .id) (y .id)))
 
-  pub bonds-are : bonds? (modelOf w .members) ≡ allBelow (w .«member_count») (λ i. ltb 0 (getD (w .bonds) i 0) && leb (getD (w .bonds) i 0) bondLimit)
-  unfolding bonds?
-  bonds-are =
-      let ms = modelOf w .members in
-      ap (λ (n : ℕ). allBelow n (λ i. ltb 0 (memberAt ms i .bond) && leb (memberAt ms i .bond) bondLimit)) (count-members w)
-      ∙ all-same (w .«member_count») _ _ (λ i h. ap (λ (x : Member). ltb 0 (x .bond) && leb (x .bond) bondLimit) (member-is i h))
+  -- ---- the tree
 
-  pub ids-are : idTwice? (modelOf w .members) ≡ pairBelow (w .«member_count») (λ i j. eqb (getD (w .ids) i 0) (getD (w .ids) j 0))
-  unfolding idTwice?
-  ids-are =
-      let ms = modelOf w .members in
-      ap (λ (n : ℕ). pairBelow n (λ i j. eqb (memberAt ms i .id) (memberAt ms j .id))) (count-members w)
-      ∙ pair-same (w .«member_count») _ _ (λ i j h l. ap₂ (λ (x y : Member). eqb (x .id) (y .id)) (member-is i (omega arith)) (member-is j l))
+  abbrev cs : List Checkpoint
+  cs = modelOf w .checkpoints
 
-  pub names-are : nameTwice? (modelOf w .checkpoints) ≡ pairBelow (w .«checkpoint_count») (λ i j. sameBytes (part (i * 32) 32 (w .names)) (part (j * 32) 32 (w .names)))
-  unfolding nameTwice?
-  names-are =
-      let cs = modelOf w .checkpoints in
-      ap (λ (n : ℕ). pairBelow n (λ i j. sameBytes (checkpointAt cs i .name) (checkpointAt cs j .name))) (count-checkpoints w)
-      ∙ pair-same (w .«checkpoint_count») _ _ (λ i j h l. ap₂ (λ (x y : Checkpoint). sameBytes (x .name) (y .name)) (checkpoint-is i (omega arith)) (checkpoint-is j l))
+  -- the step from a checkpoint to its parent, whose height is asked only where its place is smaller
+  step-is : (i : ℕ) → i < w .«checkpoint_count»
+      → (ltb (parentOf cs i) i && eqb (heightOf cs i) (heightOf cs (parentOf cs i) + 1))
+      ≡ (ltb (placeAt (w .parents) i) i
+      && eqb (heightAt (w .heights) i) (heightAt (w .heights) (placeAt (w .parents) i) + 1))
+  step-is i h =
+      let p = placeAt (w .parents) i in
+      ap (λ (c : Checkpoint). ltb (c .parent) i && eqb (c .height) (heightOf cs (c .parent) + 1)) (checkpoint-is w i h)
+      ∙ guarded p i
+      (λ l. ap (λ (c : Checkpoint). eqb (heightAt (w .heights) i) (c .height + 1)) (checkpoint-is w p (omega arith)))
 
-  pub twice-is : voteTwice? (modelOf w .votes) ≡ pairBelow (w .«vote_count») (λ i j. isVote (w .voters) (w .sources) (w .targets) (getD (w .voters) j 0) (placeAt (w .sources) j) (placeAt (w .targets) j) i)
-  unfolding voteTwice?
-  twice-is =
-      let vs = modelOf w .votes in
-      ap (λ (n : ℕ). pairBelow n (λ i j. sameVote (voteAt vs i) (voteAt vs j))) (count-votes w)
-      ∙ pair-same (w .«vote_count») _ _ (λ i j h l. ap₂ sameVote (vote-is i (omega arith)) (vote-is j l))
+  pub tree-is : 0 < w .«checkpoint_count»
+      → tree? (modelOf w .checkpoints) ≡ treePasses (w .names) (w .parents) (w .heights) (w .«checkpoint_count»)
+  unfolding tree? steps? nameTwice?
+  tree-is rooted =
+      ap₂ _&&_
+      (ap₂ _&&_
+      (ap (λ (c : Checkpoint). leb (c .height) rootHeightLimit) (checkpoint-is w 0 rooted))
+      (all-are (count-checkpoints w) step-is (λ i b. eqb i 0 || b)))
+      (ap not (pairs-are (count-checkpoints w) (checkpoint-is w) (λ x y. sameBytes (x .name) (y .name))))
 
-  pub root-is : 0 < w .«checkpoint_count» → heightOf (modelOf w .checkpoints) 0 ≡ heightAt (w .heights) 0
-  root-is h = ap (λ (c : Checkpoint). c .height) (checkpoint-is 0 h)
+  -- in a tree that passes every parent is at a smaller place
+  pub falls : treePasses (w .names) (w .parents) (w .heights) (w .«checkpoint_count») ≡ true
+      → Falling (w .«checkpoint_count») (w .parents)
+  falls e =
+      let low = leb (heightAt (w .heights) 0) rootHeightLimit in
+      let steps = allBelow (w .«checkpoint_count») (λ i. isStep (w .parents) (w .heights) i) in
+      sound-falls (w .parents) (w .heights) _ (sym (and-right low steps (and-left (low && steps) _ e)))
 
-  pub tree-is : tree? (modelOf w .checkpoints) ≡ allBelow (w .«checkpoint_count») (λ i. isStep (w .parents) (w .heights) i)
-  unfolding tree?
-  tree-is =
-      ap (λ (n : ℕ). allBelow n step) (count-checkpoints w)
-      ∙ all-same (w .«checkpoint_count») _ _ (λ i h. ap (λ (b : Bool). eqb i 0 || b) (climb i h))
-    where
-      cs : List Checkpoint
-      cs = modelOf w .checkpoints
+  -- ---- the votes
 
-      step : ℕ → Bool
-      step i = eqb i 0 || (ltb (parentOf cs i) i && eqb (heightOf cs i) (heightOf cs (parentOf cs i) + 1))
-
-      climb : (i : ℕ) → i < w .«checkpoint_count»
-          → (ltb (parentOf cs i) i && eqb (heightOf cs i) (heightOf cs (parentOf cs i) + 1))
-          ≡ (ltb (placeAt (w .parents) i) i && eqb (heightAt (w .heights) i) (heightAt (w .heights) (placeAt (w .parents) i) + 1))
-      climb i h =
-          ap (λ (c : Checkpoint). ltb (c .parent) i && eqb (c .height) (heightOf cs (c .parent) + 1)) (checkpoint-is i h)
-          ∙ guarded (placeAt (w .parents) i) i (λ l. ap (λ (c : Checkpoint). eqb (heightAt (w .heights) i) (c .height + 1)) (checkpoint-is (placeAt (w .parents) i) (omega arith)))
+  vote-sound : w .«member_count» ≤ length (w .ids)
+      → (v : Vote)
+      → vote? (modelOf w) v
+      ≡ isSound (w .«member_count») (w .ids) (w .«checkpoint_count») (w .parents) (v .voter) (v .source) (v .target)
+  unfolding vote?
+  vote-sound fits v =
+      ap₂ _&&_
+      (ap₂ (λ (a : Bool) (n : ℕ). a && ltb (v .source) n && ltb (v .target) n)
+      (held-id (v .voter) (members-held w fits) refl)
+      (count-checkpoints w))
+      (ancestors-held w .ancestor (v .source) (v .target))
 
   pub votes-are : w .«member_count» ≤ length (w .ids)
-      → votes? (modelOf w) ≡ allBelow (w .«vote_count») (λ k. isSound (w .«member_count») (w .ids) (w .«checkpoint_count») (w .parents) (getD (w .voters) k 0) (placeAt (w .sources) k) (placeAt (w .targets) k))
-  unfolding votes? vote?
+      → votes? (modelOf w)
+      ≡ votesPass (w .ids) (w .«member_count») (w .parents) (w .«checkpoint_count»)
+      (w .voters) (w .sources) (w .targets) (w .«vote_count»)
+  unfolding votes? voteTwice?
   votes-are fits =
-      ap (λ (n : ℕ). allBelow n (λ k. vote? (modelOf w) (voteAt (modelOf w .votes) k))) (count-votes w)
-      ∙ all-same (w .«vote_count») _ _ (λ k h. ap (vote? (modelOf w)) (vote-is k h) ∙ each (voteIn w k))
-    where
-      cs : List Checkpoint
-      cs = modelOf w .checkpoints
-
-      each : (v : Vote) → vote? (modelOf w) v ≡ isSound (w .«member_count») (w .ids) (w .«checkpoint_count») (w .parents) (v .voter) (v .source) (v .target)
-      each v =
-          ap₂ _&&_
-          (ap₂ (λ (a : Bool) (n : ℕ). a && ltb (v .source) n && ltb (v .target) n) (held-id (v .voter) (members-held w fits) refl) (count-checkpoints w))
-          (ancestors-held w .ancestor (v .source) (v .target))
-
--- a list of tests fails where one of them does
-fails : (bs : List Bool) (k : ℕ) → getD bs k true ≡ false → allOf bs ≡ false
-unfolding allOf
-fails [] k e = absurd (true≢false e)
-fails (b ∷ bs) zero e = ap (λ (x : Bool). x && allOf bs) e
-fails (b ∷ bs) (suc k) e = ap (λ (x : Bool). b && x) (fails bs k e) ∙ and-false b
-
--- row 40's tests, in its order
-abbrev pub tests : Witness → List Bool
-tests w =
-    let m = modelOf w in
-    ltb 0 (length (m .checkpoints))
-    ∷ leb (length (m .members)) memberLimit
-    ∷ leb (length (m .checkpoints)) checkpointLimit
-    ∷ leb (length (m .votes)) voteLimit
-    ∷ bonds? (m .members)
-    ∷ eqb (heightOf (m .checkpoints) 0) rootHeight
-    ∷ tree? (m .checkpoints)
-    ∷ votes? m
-    ∷ not (idTwice? (m .members))
-    ∷ not (nameTwice? (m .checkpoints))
-    ∷ not (voteTwice? (m .votes))
-    ∷ []
-
-pub one-fails : (w : Witness) (k : ℕ) → getD (tests w) k true ≡ false → false ≡ wellFormed? rootHeight (modelOf w)
-unfolding wellFormed?
-one-fails w k e = sym (fails (tests w) k e)
-
--- where all before it hold, the last decides
-pub last-decides : (w : Witness) {b : Bool}
-    → getD (tests w) 0 true ≡ true
-    → getD (tests w) 1 true ≡ true
-    → getD (tests w) 2 true ≡ true
-    → getD (tests w) 3 true ≡ true
-    → getD (tests w) 4 true ≡ true
-    → getD (tests w) 5 true ≡ true
-    → getD (tests w) 6 true ≡ true
-    → getD (tests w) 7 true ≡ true
-    → getD (tests w) 8 true ≡ true
-    → getD (tests w) 9 true ≡ true
-    → getD (tests w) 10 true ≡ b
-    → b ≡ wellFormed? rootHeight (modelOf w)
-unfolding wellFormed? allOf
-last-decides w {b} e0 e1 e2 e3 e4 e5 e6 e7 e8 e9 e10 = and-true b ∙ sym (rw (e0, e1, e2, e3, e4, e5, e6, e7, e8, e9, e10))
+      ap₂ (λ (a b : Bool). a && not b)
+      (all-are (count-votes w) (vote-is w) (λ k v. vote? (modelOf w) v)
+      ∙ all-same (w .«vote_count») _ _ (λ k h. vote-sound fits (voteIn w k)))
+      (pairs-are (count-votes w) (vote-is w) sameVote)

@@ -9,7 +9,6 @@ use borrow.Author.Tests.{eq-eqb, eqb-true, eqb-false, lt-ltb}
 use lib.Dec.{eqb}
 use lib.ListN.{length, getD, set, replicate, length-set, length-replicate, getD-replicate}
 use lib.Seq.{getD-set-same, getD-set-other}
-use Rattle.model.specs.Limits.{rootHeight}
 use Rattle.model.specs.Lists.{anyBelow}
 use Rattle.model.specs.Model.{Model, parentOf}
 use Rattle.model.specs.Support.{link?}
@@ -25,32 +24,40 @@ use Rattle.search.proofs.Filled.{Filled, filled-more}
 use Rattle.search.proofs.Pointwise.{any-same}
 use Rattle.standing.specs.Answers.{IsAnalysis}
 
+-- s is justified, and a supermajority link leads from it to t
+abbrev pub leads : Model → ℕ → ℕ → Bool
+leads m t s = justified? m s && link? m s t
+
+-- c is a direct child of p, and a supermajority link leads from p to it
+abbrev pub joins : Model → ℕ → ℕ → Bool
+joins m p c = child? (m .checkpoints) p c && link? m p c
+
 -- the places below t are marked: each as justified or not, and each as joined to a direct child below t or not
 pub record Marked (m : Model) (justified finalizing : List Bool) (t : ℕ) : Type 0 where
   pub marks : Filled false 512 (justified? m) justified t
   pub long : length finalizing ≡ 512
-  pub finals : (p : ℕ) → p < 512 → getD finalizing p false ≡ anyBelow t (λ c. child? (m .checkpoints) p c && link? m p c)
+  pub finals : (p : ℕ) → p < 512 → getD finalizing p false ≡ anyBelow t (joins m p)
 
-module _ (m : Model) (good : WellFormed rootHeight m) where
+module _ (m : Model) (good : WellFormed m) where
   -- a place other than the root is justified by a link from a justified place below it
-  from-below : (t : ℕ) → 0 < t → justified? m t ≡ anyBelow t (λ s. justified? m s && link? m s t)
-  from-below t h = same-test (λ e. there (justified-true rootHeight m good t e) h) back
+  from-below : (t : ℕ) → 0 < t → justified? m t ≡ anyBelow t (leads m t)
+  from-below t h = same-test (λ e. there (justified-true m good t e) h) back
     where
-      there : {t : ℕ} → Justified m t → 0 < t → anyBelow t (λ s. justified? m s && link? m s t) ≡ true
+      there : {t : ℕ} → Justified m t → 0 < t → anyBelow t (leads m t) ≡ true
       there root h = absurd (omega arith)
       there (link {s = s} {t = t} j l) h =
-          found-below t (λ k. justified? m k && link? m k t) s (ancestor-later rootHeight (m .checkpoints) (good .tree) (link-climbs rootHeight m good s t l))
-          (both (true-justified rootHeight m good s j) l)
+          let below = ancestor-later (m .checkpoints) (good .tree) (link-climbs m good s t l) in
+          found-below t (leads m t) s below (both (true-justified m good s j) l)
 
-      from : Below t (λ s. justified? m s && link? m s t) → justified? m t ≡ true
+      from : Below t (leads m t) → justified? m t ≡ true
       from b =
-          true-justified rootHeight m good t
+          true-justified m good t
           (link
-          (justified-true rootHeight m good (b .at) (and-left (justified? m (b .at)) (link? m (b .at) t) (b .passes)))
+          (justified-true m good (b .at) (and-left (justified? m (b .at)) (link? m (b .at) t) (b .passes)))
           (and-right (justified? m (b .at)) (link? m (b .at) t) (b .passes)))
 
-      back : anyBelow t (λ s. justified? m s && link? m s t) ≡ true → justified? m t ≡ true
-      back e = from (below-found t (λ s. justified? m s && link? m s t) e)
+      back : anyBelow t (leads m t) ≡ true → justified? m t ≡ true
+      back e = from (below-found t (leads m t) e)
 
   pub marked-root : Marked m (set (replicate 512 false) 0 true) (replicate 512 false) 1
   unfolding anyBelow child?
@@ -58,14 +65,18 @@ module _ (m : Model) (good : WellFormed rootHeight m) where
       record {
         marks = record {
           long = length-set (replicate 512 false) 0 true ∙ length-replicate 512 false;
-          each = λ i h. subst (λ (k : ℕ). getD (set (replicate 512 false) 0 true) k false ≡ justified? m k) (let e : 0 ≡ i = omega arith in e) (sym (true-justified rootHeight m good 0 root));
+          each = λ i h.
+              let e : 0 ≡ i = omega arith in
+              subst (λ (k : ℕ). getD (set (replicate 512 false) 0 true) k false ≡ justified? m k) e
+              (sym (true-justified m good 0 root));
         };
         long = length-replicate 512 false;
         finals = λ p h. getD-replicate 512 p false false h;
       }
 
   -- a place's test for a direct child is that it is the parent
-  held-child : (p t : ℕ) → 0 < t → t < length (m .checkpoints) → child? (m .checkpoints) p t ≡ eqb (parentOf (m .checkpoints) t) p
+  held-child : (p t : ℕ) → 0 < t → t < length (m .checkpoints)
+      → child? (m .checkpoints) p t ≡ eqb (parentOf (m .checkpoints) t) p
   unfolding child?
   held-child p t h l = rw (lt-ltb 0 t h, lt-ltb t (length (m .checkpoints)) l)
 
@@ -84,35 +95,48 @@ module _ (m : Model) (good : WellFormed rootHeight m) where
       record {
         marks = filled-more false 512 (justified? m) justified t reached few
             (r
-            ∙ any-same t (λ s. getD justified s false && L s) (λ s. justified? m s && link? m s t) (λ s b. ap₂ _&&_ (so .marks .each s b) (links s (omega arith)))
+            ∙ any-same t (λ s. getD justified s false && L s) (leads m t)
+            (λ s b. ap₂ _&&_ (so .marks .each s b) (links s (omega arith)))
             ∙ sym (from-below t h))
             (so .marks);
-        long = length-set finalizing parent (getD finalizing parent false || hit) ∙ so .long;
+        long = length-set finalizing parent new ∙ so .long;
         finals = λ p b. more p b (eqb parent p) refl;
       }
     where
-      F : ℕ → ℕ → Bool
-      F p c = child? (m .checkpoints) p c && link? m p c
+      new : Bool
+      new = getD finalizing parent false || hit
 
-      next : (p : ℕ) → anyBelow (t + 1) (F p) ≡ (anyBelow t (F p) || (eqb parent p && link? m p t))
-      next p =
-          unfold anyBelow in ap (λ (n : ℕ). anyBelow n (F p)) (add-one t)
-          ∙ ap (λ (x : Bool). anyBelow t (F p) || (x && link? m p t)) (held-child p t h l ∙ ap (λ (q : ℕ). eqb q p) (sym is))
+      next : (p : ℕ) (b : Bool) → eqb parent p ≡ b
+          → anyBelow (t + 1) (joins m p) ≡ (anyBelow t (joins m p) || (b && link? m p t))
+      next p b e =
+          unfold anyBelow in ap (λ (n : ℕ). anyBelow n (joins m p)) (add-one t)
+          ∙ ap (λ (x : Bool). anyBelow t (joins m p) || (x && link? m p t))
+          (held-child p t h l ∙ ap (λ (q : ℕ). eqb q p) (sym is) ∙ e)
 
-      more : (p : ℕ) → p < 512 → (b : Bool) → eqb parent p ≡ b → getD (set finalizing parent (getD finalizing parent false || hit)) p false ≡ anyBelow (t + 1) (F p)
+      more : (p : ℕ) → p < 512 → (b : Bool) → eqb parent p ≡ b
+          → getD (set finalizing parent new) p false ≡ anyBelow (t + 1) (joins m p)
       more p w true e =
-          subst (λ (q : ℕ). getD (set finalizing parent (getD finalizing parent false || hit)) q false ≡ anyBelow (t + 1) (F q)) (eqb-true parent p e)
-          (getD-set-same finalizing parent (getD finalizing parent false || hit) false (omega (arith, so .long))
+          subst (λ (q : ℕ). getD (set finalizing parent new) q false ≡ anyBelow (t + 1) (joins m q))
+          (eqb-true parent p e)
+          (getD-set-same finalizing parent new false (omega (arith, so .long))
           ∙ ap₂ _||_ (so .finals parent inside) (s ∙ links parent inside)
-          ∙ sym (next parent ∙ ap (λ (x : Bool). anyBelow t (F parent) || (x && link? m parent t)) (eq-eqb parent parent refl)))
+          ∙ sym (next parent true (eq-eqb parent parent refl)))
       more p w false e =
-          getD-set-other finalizing parent p (getD finalizing parent false || hit) false (λ q. eqb-false parent p e (sym q))
+          getD-set-other finalizing parent p new false (λ q. eqb-false parent p e (sym q))
           ∙ so .finals p w
-          ∙ sym (next p ∙ ap (λ (x : Bool). anyBelow t (F p) || (x && link? m p t)) e ∙ or-false (anyBelow t (F p)))
+          ∙ sym (next p false e ∙ or-false (anyBelow t (joins m p)))
 
-  pub marked-all : {justified finalizing : List Bool} {n t : ℕ} → length (m .checkpoints) ≡ n → n ≤ 512 → n ≤ t → t ≤ n → Marked m justified finalizing t → IsAnalysis m (record { justified = justified; finalizing = finalizing })
+  pub marked-all : {justified finalizing : List Bool} {n t : ℕ}
+      → length (m .checkpoints) ≡ n
+      → n ≤ 512
+      → n ≤ t
+      → t ≤ n
+      → Marked m justified finalizing t
+      → IsAnalysis m (record { justified = justified; finalizing = finalizing })
   marked-all {justified} {finalizing} {n} {t} e few low high so =
       record {
         justified = λ p h. so .marks .each p (omega arith);
-        finalizing = λ p h. so .finals p (omega arith) ∙ ap (λ (k : ℕ). anyBelow k (λ c. child? (m .checkpoints) p c && link? m p c)) (let q : t ≡ length (m .checkpoints) = omega arith in q);
+        finalizing = λ p h.
+            let q : t ≡ length (m .checkpoints) = omega arith in
+            so .finals p (omega arith) ∙ ap (λ (k : ℕ). anyBelow k (joins m p)) q;
       }

@@ -13,8 +13,8 @@ ghost use lib.ListN.{length};
 ghost use Rattle.model.specs.Finality.{status};
 ghost use Rattle.model.specs.Limits.{checkpointLimit};
 ghost use Rattle.model.specs.Model.{Model};
+ghost use Rattle.state.specs.Sound.{Sound};
 ghost use Rattle.state.specs.State.{modelOf};
-ghost use Rattle.tally.specs.Ready.{Sound};
 ghost use Rattle.standing.specs.Answers.{IsAnalysis};
 
 // For each place whether it is justified, and whether a supermajority link leads from it to a direct child.
@@ -37,7 +37,7 @@ pub fn statuses(w: Witness) -> Analysis
     let who = b.who;
     let head = b.head;
     let next = b.next;
-    let total = b.total;
+    let quota = b.quota;
     let mut justified = [false; MAX_CHECKPOINTS];
     let mut finalizing = [false; MAX_CHECKPOINTS];
     justified[0] = true;
@@ -45,12 +45,12 @@ pub fn statuses(w: Witness) -> Analysis
     while t < places {
         let tally = votes::gather(&who, sources, &next, head[t]);
         let to = t as u16;
-        let reached = links::reaches(tally, &justified, Place(to), &w.bonds, members, total);
+        let reached = links::reaches(tally, &justified, Place(to), &w.bonds, members, quota);
         justified[t] = reached;
         let parent = parents[t];
         let p = parent.0 as usize;
         let v = tally[p];
-        finalizing[p] = finalizing[p] | voters::carries(v, &w.bonds, members, total);
+        finalizing[p] = finalizing[p] | voters::carries(v, &w.bonds, members, quota);
         t += 1;
     }
     Analysis {

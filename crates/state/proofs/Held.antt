@@ -7,9 +7,9 @@ use mathlib.Core.Bool.{Bool, false, _||_}
 use lib.ListN.{length, getD, set, take, length-append}
 use lib.Seq.{length-take-le, getD-take, getD-set-same, getD-set-other}
 use lib.Dec.{eqb, ltb}
-use Rattle.model.specs.Decide.{idHeld}
+use Rattle.model.specs.Change.{append}
 use Rattle.model.specs.Lists.{tabulate, firstIndex, sameBytes}
-use Rattle.model.specs.Model.{Model, Member, Checkpoint, Vote, noMember, noCheckpoint, memberIndex, placeOf, checkpointAt, voteHeld, sameVote, append}
+use Rattle.model.specs.Model.{Model, Member, Checkpoint, Vote, noMember, noCheckpoint, memberIndex, placeOf, checkpointAt, idHeld, voteHeld, sameVote}
 use Rattle.model.proofs.Lists.{first-same, length-tabulate, tabulate-at, any-tabulate, any-append}
 use Rattle.tables.specs.Keys.{Packed}
 use Rattle.tables.specs.Rows.{rows}
@@ -19,8 +19,9 @@ use Rattle.search.proofs.Pointwise.{any-same}
 use Rattle.tables.proofs.Ancestry.{tree-tabulate}
 use Rattle.tables.proofs.Tables.{rows-length, rows-at}
 use Rattle.state.specs.declared.Witness.{Witness}
-use Rattle.state.specs.State.{Sized, modelOf, memberIn, checkpointIn, voteIn, withMember, withCheckpoint, withVote}
-use Rattle.state.specs.Tables.{MembersHeld, NamesHeld, HeightsHeld, AncestorsHeld, keyOf, KeysHeld, Held}
+use Rattle.state.specs.Sound.{SizedVotes}
+use Rattle.state.specs.State.{votePart, modelOf, memberIn, checkpointIn, voteIn, withMember, withCheckpoint, withVote}
+use Rattle.state.specs.Tables.{MembersHeld, NamesHeld, HeightsHeld, AncestorsHeld, keyOf, KeysHeld, countsOf, Held}
 use Rattle.state.proofs.Store.{store-vote}
 
 module _ (w : Witness) where
@@ -72,7 +73,7 @@ module _ (w : Witness) where
             ∙ any-same n (λ k. sameVote (voteIn w k) v) (λ k. eqb (getD keys k 0) (keyOf v)) (λ k h. sym (packed-is (w .voters) (w .sources) (w .targets) packed k (v .voter) (v .source) (v .target) h hs ht));
       }
 
-  pub all-held : {keys : List ℕ} → w .«member_count» ≤ length (w .ids) → KeysHeld (modelOf w) keys (w .«vote_count») → Held (modelOf w) (w .ids) (w .«member_count») (w .names) (w .parents) (w .heights) (w .«checkpoint_count») keys (w .«vote_count»)
+  pub all-held : {keys : List ℕ} → w .«member_count» ≤ length (w .ids) → KeysHeld (modelOf w) keys (w .«vote_count») → Held (modelOf w) (countsOf w) (w .ids) (w .names) (w .parents) (w .heights) keys
   all-held fits votes = record { members-held = members-held fits; names-held = names-held; heights-held = heights-held; ancestors-held = ancestors-held; keys-held = votes }
 
 -- whether a member is held, by the search in the table
@@ -83,15 +84,12 @@ held-id {n = n} id {r} h e = ap₂ ltb (h .index id ∙ sym e) (h .count)
 -- ---- the votes' numbers, once more is held
 
 module _ (w : Witness) {keys : List ℕ} (held : KeysHeld (modelOf w) keys (w .«vote_count»)) where
-  pub member-kept : (x : Member) → KeysHeld (modelOf (withMember w x)) keys (w .«vote_count»)
-  unfolding modelOf withMember
-  member-kept x = record { count = held .count; held = held .held }
+  -- where the votes are as they were
+  pub votes-kept : (m : Model) → m .votes ≡ modelOf w .votes → KeysHeld m keys (w .«vote_count»)
+  votes-kept m same =
+      record { count = ap length same ∙ held .count; held = λ v s t. ap (λ (vs : List Vote). voteHeld vs v) same ∙ held .held v s t }
 
-  pub checkpoint-kept : (c : Checkpoint) → KeysHeld (modelOf (withCheckpoint w c)) keys (w .«vote_count»)
-  unfolding modelOf withCheckpoint
-  checkpoint-kept c = record { count = held .count; held = held .held }
-
-  pub vote-more : Sized w → (v : Vote) → w .«vote_count» < 4096 → length keys ≡ 4096 → v .source < 65536 → v .target < 65536 → KeysHeld (modelOf (withVote w v)) (set keys (w .«vote_count») (keyOf v)) (w .«vote_count» + 1)
+  pub vote-more : SizedVotes (votePart w) → (v : Vote) → w .«vote_count» < 4096 → length keys ≡ 4096 → v .source < 65536 → v .target < 65536 → KeysHeld (modelOf (withVote w v)) (set keys (w .«vote_count») (keyOf v)) (w .«vote_count» + 1)
   unfolding append voteHeld
   vote-more sized v room long vs vt =
       subst (λ (m : Model). KeysHeld m (set keys (w .«vote_count») (keyOf v)) (w .«vote_count» + 1)) (sym (store-vote w sized v room))

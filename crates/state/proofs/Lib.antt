@@ -1,8 +1,9 @@
 pub mod Fields
+pub mod Entries
+pub mod Sound
 pub mod Held
 pub mod Store
 pub mod Kept
 pub mod Stored
 pub mod Header
-pub mod Ready
 pub mod Started

@@ -1,7 +1,7 @@
 -- The empty witness of a right header holds the model's start.
 use Prim.Native.Nat.{ℕ, zero, suc, _<_, _≤_, _^_}
 use native.Mathlib.Omega.{arith}
-use mathlib.Core.Path.{_≡_, sym, ap, _∙_}
+use mathlib.Core.Path.{_≡_, sym, ap, _∙_, subst}
 use mathlib.Core.List.{List, [], _∷_}
 use borrow.Author.Tests.{ltb-false}
 use lib.ListN.{length, getD, drop, replicate, length-replicate, length-take, length-drop}
@@ -10,9 +10,12 @@ use Rattle.model.specs.Answer.{answer}
 use Rattle.model.specs.Bytes.{part}
 use Rattle.model.specs.Lists.{tabulate}
 use Rattle.model.specs.Log.{header}
-use Rattle.model.specs.Model.{start}
+use Rattle.model.specs.Model.{Model, start}
+use Rattle.model.specs.WellFormed.{WellFormed}
+use Rattle.model.proofs.Run.{start-good}
 use Rattle.model.proofs.Answer.{row-passes}
-use Rattle.state.specs.State.{Typed, place, height, emptyWitness, modelOf}
+use Rattle.state.specs.Sound.{Typed, Sound}
+use Rattle.state.specs.State.{place, height, emptyWitness, modelOf}
 use Rattle.state.proofs.Store.{paste-new}
 
 zeros : ℕ → List ℕ
@@ -44,19 +47,24 @@ pub empty-typed : (name : List ℕ) → length name ≡ 32 → Typed (emptyWitne
 unfolding emptyWitness zeros
 empty-typed name long =
     record {
-      sized =
+      members = record { ids = zeros-long 128; bonds = zeros-long 128 };
+      tree =
           record {
-            ids = zeros-long 128;
-            bonds = zeros-long 128;
             names = root-table 16384 name (omega arith) long;
             parents = length-replicate 512 (place 0);
             heights = length-replicate 512 (height 0);
+          };
+      votes =
+          record {
             voters = zeros-long 4096;
             sources = length-replicate 4096 (place 0);
             targets = length-replicate 4096 (place 0);
           };
       ids = zeros-low 128;
     }
+
+pub empty-sound : (name : List ℕ) → length name ≡ 32 → Sound (emptyWitness name)
+empty-sound name long = record { typed = empty-typed name long; good = subst (λ (m : Model). WellFormed m) (sym (empty-model name long)) (start-good name) }
 
 -- a right header is whole, and has a name of 32 bytes
 pub header-long : (log name : List ℕ) → header log ≡ answer name → 37 ≤ length log

@@ -7,11 +7,13 @@ use mathlib.Core.List.{List, [], _∷_, _++_, map, append-assoc}
 use lib.ListN.{length, getD, set, take, drop, length-map, length-drop, take-append-drop}
 use lib.Seq.{paste, paste-suc, getD-drop, getD-set-same, getD-set-other, take-at, drop-at, take-all, length-take-le, take-append-le, drop-append-le}
 use Rattle.model.specs.Bytes.{part}
+use Rattle.model.specs.Change.{addMember, addCheckpoint, addVote, append}
 use Rattle.model.specs.Lists.{tabulate}
-use Rattle.model.specs.Model.{Member, Checkpoint, Vote, addMember, addCheckpoint, addVote, append}
+use Rattle.model.specs.Model.{Member, Checkpoint, Vote, withMembers, withCheckpoints, withVotes}
 use Rattle.model.proofs.Lists.{tabulate-same}
 use Rattle.state.specs.declared.Witness.{Witness}
-use Rattle.state.specs.State.{Sized, place, height, memberIn, checkpointIn, voteIn, modelOf, withMember, withCheckpoint, withVote}
+use Rattle.state.specs.Sound.{SizedMembers, SizedTree, SizedVotes}
+use Rattle.state.specs.State.{memberPart, treePart, votePart, place, height, memberIn, checkpointIn, voteIn, modelOf, withMember, withCheckpoint, withVote}
 
 -- an array's length, from that of the list of its elements' values
 pub length-any : (X Y : Type 0) (f : X → Y) (l : List X) (n : ℕ) → length (map f l) ≡ n → length l ≡ n
@@ -58,66 +60,51 @@ module _ (d : List ℕ) (n : ℕ) (name : List ℕ) (fits : n * 32 + 32 ≤ leng
       ∙ sym (front (take (n * 32) d) (drop (n * 32) d) (i * 32) 32 inside)
       ∙ ap (part (i * 32) 32) (take-append-drop (n * 32) d)
 
-module _ (w : Witness) (sized : Sized w) where
-  pub store-member : (x : Member) → w .«member_count» < 128 → modelOf (withMember w x) ≡ append (modelOf w) (addMember x)
+module _ (w : Witness) where
+  pub store-member : SizedMembers (memberPart w) → (x : Member) → w .«member_count» < 128 → modelOf (withMember w x) ≡ append (modelOf w) (addMember x)
   unfolding modelOf withMember append
-  store-member x room =
+  store-member sized x room =
       let n = w .«member_count» in
-      λ k.
-      record {
-        members = one-more n (memberIn w) (memberIn (withMember w x)) x
-            (λ i h. λ j. record { id = set-old (w .ids) n (x .id) 0 i h j; bond = set-old (w .bonds) n (x .bond) 0 i h j })
-            (λ j. record { id = set-new (w .ids) n (x .id) 0 (omega (arith, sized .ids)) j; bond = set-new (w .bonds) n (x .bond) 0 (omega (arith, sized .bonds)) j })
-            k;
-        checkpoints = tabulate (w .«checkpoint_count») (checkpointIn w);
-        votes = tabulate (w .«vote_count») (voteIn w);
-      }
+      ap (withMembers (modelOf w))
+      (one-more n (memberIn w) (memberIn (withMember w x)) x
+      (λ i h. λ j. record { id = set-old (w .ids) n (x .id) 0 i h j; bond = set-old (w .bonds) n (x .bond) 0 i h j })
+      (λ j. record { id = set-new (w .ids) n (x .id) 0 (omega (arith, sized .ids)) j; bond = set-new (w .bonds) n (x .bond) 0 (omega (arith, sized .bonds)) j }))
 
-  pub store-checkpoint : (c : Checkpoint) → w .«checkpoint_count» < 512 → length (c .name) ≡ 32 → modelOf (withCheckpoint w c) ≡ append (modelOf w) (addCheckpoint c)
+  pub store-checkpoint : SizedTree (treePart w) → (c : Checkpoint) → w .«checkpoint_count» < 512 → length (c .name) ≡ 32 → modelOf (withCheckpoint w c) ≡ append (modelOf w) (addCheckpoint c)
   unfolding modelOf withCheckpoint append
-  store-checkpoint c room long =
+  store-checkpoint sized c room long =
       let n = w .«checkpoint_count» in
       let fits : n * 32 + 32 ≤ length (w .names) = omega (arith, sized .names) in
-      λ k.
+      ap (withCheckpoints (modelOf w))
+      (one-more n (checkpointIn w) (checkpointIn (withCheckpoint w c)) c
+      (λ i h. λ j.
       record {
-        members = tabulate (w .«member_count») (memberIn w);
-        checkpoints = one-more n (checkpointIn w) (checkpointIn (withCheckpoint w c)) c
-            (λ i h. λ j.
-            record {
-              name = paste-old (w .names) n (c .name) fits long i h j;
-              parent = set-old (w .parents) n (place (c .parent)) (place 0) i h j .0;
-              height = set-old (w .heights) n (height (c .height)) (height 0) i h j .0;
-            })
-            (λ j.
-            record {
-              name = paste-new (w .names) n (c .name) fits long j;
-              parent = set-new (w .parents) n (place (c .parent)) (place 0) (omega (arith, sized .parents)) j .0;
-              height = set-new (w .heights) n (height (c .height)) (height 0) (omega (arith, sized .heights)) j .0;
-            })
-            k;
-        votes = tabulate (w .«vote_count») (voteIn w);
-      }
+        name = paste-old (w .names) n (c .name) fits long i h j;
+        parent = set-old (w .parents) n (place (c .parent)) (place 0) i h j .0;
+        height = set-old (w .heights) n (height (c .height)) (height 0) i h j .0;
+      })
+      (λ j.
+      record {
+        name = paste-new (w .names) n (c .name) fits long j;
+        parent = set-new (w .parents) n (place (c .parent)) (place 0) (omega (arith, sized .parents)) j .0;
+        height = set-new (w .heights) n (height (c .height)) (height 0) (omega (arith, sized .heights)) j .0;
+      }))
 
-  pub store-vote : (v : Vote) → w .«vote_count» < 4096 → modelOf (withVote w v) ≡ append (modelOf w) (addVote v)
+  pub store-vote : SizedVotes (votePart w) → (v : Vote) → w .«vote_count» < 4096 → modelOf (withVote w v) ≡ append (modelOf w) (addVote v)
   unfolding modelOf withVote append
-  store-vote v room =
+  store-vote sized v room =
       let n = w .«vote_count» in
-      λ k.
+      ap (withVotes (modelOf w))
+      (one-more n (voteIn w) (voteIn (withVote w v)) v
+      (λ i h. λ j.
       record {
-        members = tabulate (w .«member_count») (memberIn w);
-        checkpoints = tabulate (w .«checkpoint_count») (checkpointIn w);
-        votes = one-more n (voteIn w) (voteIn (withVote w v)) v
-            (λ i h. λ j.
-            record {
-              voter = set-old (w .voters) n (v .voter) 0 i h j;
-              source = set-old (w .sources) n (place (v .source)) (place 0) i h j .0;
-              target = set-old (w .targets) n (place (v .target)) (place 0) i h j .0;
-            })
-            (λ j.
-            record {
-              voter = set-new (w .voters) n (v .voter) 0 (omega (arith, sized .voters)) j;
-              source = set-new (w .sources) n (place (v .source)) (place 0) (omega (arith, sized .sources)) j .0;
-              target = set-new (w .targets) n (place (v .target)) (place 0) (omega (arith, sized .targets)) j .0;
-            })
-            k;
-      }
+        voter = set-old (w .voters) n (v .voter) 0 i h j;
+        source = set-old (w .sources) n (place (v .source)) (place 0) i h j .0;
+        target = set-old (w .targets) n (place (v .target)) (place 0) i h j .0;
+      })
+      (λ j.
+      record {
+        voter = set-new (w .voters) n (v .voter) 0 (omega (arith, sized .voters)) j;
+        source = set-new (w .sources) n (place (v .source)) (place 0) (omega (arith, sized .sources)) j .0;
+        target = set-new (w .targets) n (place (v .target)) (place 0) (omega (arith, sized .targets)) j .0;
+      }))

@@ -8,7 +8,7 @@ use lib.Seq.{paste, take-take}
 use Rattle.model.specs.Bytes.{part}
 use Rattle.model.specs.declared.Height.{Height}
 use Rattle.model.specs.declared.Place.{Place}
-use Rattle.state.specs.State.{place, height, emptyWitness, withCheckpoint}
+use Rattle.state.specs.State.{place, height, witnessOf, withTreePart, emptyWitness, withCheckpoint}
 use Rattle.state.specs.declared.Witness.{Witness}
 use Rattle.state.proofs.Fields.{part-at}
 
@@ -21,19 +21,8 @@ paste-name d k at i log =
 -- the witness as the code leaves it, its table of names being `names`
 abbrev withName : Witness → List ℕ → Place → Height → Witness
 withName w names p h =
-    record {
-      ids = w .ids;
-      bonds = w .bonds;
-      names = names;
-      parents = set (w .parents) (w .«checkpoint_count») p;
-      heights = set (w .heights) (w .«checkpoint_count») h;
-      voters = w .voters;
-      sources = w .sources;
-      targets = w .targets;
-      «member_count» = w .«member_count»;
-      «checkpoint_count» = w .«checkpoint_count» + 1;
-      «vote_count» = w .«vote_count»;
-    }
+    let n = w .«checkpoint_count» in
+    withTreePart w (record { names = names; parents = set (w .parents) n p; heights = set (w .heights) n h; count = n + 1 })
 
 pub checkpoint-stored : (w : Witness) (at : ℕ) (log : List ℕ) (p : Place) (h : Height) {names : List ℕ}
     → names ≡ paste (w .names) (w .«checkpoint_count» * 32) (drop (at + 1) log) 32
@@ -42,20 +31,12 @@ unfolding withCheckpoint
 checkpoint-stored w at log p h copied = ap (λ (t : List ℕ). withName w t p h) (copied ∙ paste-name (w .names) (w .«checkpoint_count» * 32) at 1 log)
 
 -- the empty witness, as the code makes it
-pub empty-is : (log : List ℕ) {names : List ℕ} → names ≡ paste (replicate 16384 0) 0 (drop 5 log) 32
-    → record {
-      ids = replicate 128 0;
-      bonds = replicate 128 0;
-      names = names;
-      parents = replicate 512 (place 0);
-      heights = replicate 512 (height 0);
-      voters = replicate 4096 0;
-      sources = replicate 4096 (place 0);
-      targets = replicate 4096 (place 0);
-      «member_count» = 0;
-      «checkpoint_count» = 1;
-      «vote_count» = 0;
-    }
-    ≡ emptyWitness (part 5 32 log)
+abbrev madeWith : List ℕ → Witness
+madeWith names =
+    witnessOf (record { ids = replicate 128 0; bonds = replicate 128 0; count = 0 })
+    (record { names = names; parents = replicate 512 (place 0); heights = replicate 512 (height 0); count = 1 })
+    (record { voters = replicate 4096 0; sources = replicate 4096 (place 0); targets = replicate 4096 (place 0); count = 0 })
+
+pub empty-is : (log : List ℕ) {names : List ℕ} → names ≡ paste (replicate 16384 0) 0 (drop 5 log) 32 → madeWith names ≡ emptyWitness (part 5 32 log)
 unfolding emptyWitness
-empty-is log e = ap (λ (t : List ℕ). record { ids = replicate 128 0; bonds = replicate 128 0; names = t; parents = replicate 512 (place 0); heights = replicate 512 (height 0); voters = replicate 4096 0; sources = replicate 4096 (place 0); targets = replicate 4096 (place 0); «member_count» = 0; «checkpoint_count» = 1; «vote_count» = 0 }) (e ∙ paste-name (replicate 16384 0) 0 0 5 log)
+empty-is log e = ap madeWith (e ∙ paste-name (replicate 16384 0) 0 0 5 log)

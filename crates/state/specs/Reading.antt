@@ -3,10 +3,9 @@ use Prim.Native.Nat.{ℕ}
 use mathlib.Core.Path.{_≡_}
 use mathlib.Core.List.{List}
 use Rattle.model.specs.Answer.{Answer, refused, answer}
-use Rattle.model.specs.Model.{Change}
+use Rattle.model.specs.Change.{Told, nothingLeft, taken, Decision}
 use Rattle.model.specs.Refusals.{refusalNumber}
-use Rattle.model.specs.Run.{Told, nothingLeft, taken, told}
-use Rattle.state.specs.State.{store, emptyWitness}
+use Rattle.state.specs.State.{stored, emptyWitness}
 use Rattle.state.specs.declared.Witness.{Witness}
 use Rattle.state.specs.declared.Reading.{Reading}
 use Rattle.state.specs.declared.Beginning.{Beginning}
@@ -20,11 +19,11 @@ outcomeOf Nothing = answer nothingLeft
 outcomeOf Taken = answer taken
 outcomeOf (Refused r) = refused (refusalNumber r)
 
--- `a` is what the model decides
-pub record IsReading (w : Witness) (a : Answer Change) (after : ℕ) (r : Reading) : Type 0 where
-  pub outcome : outcomeOf (r .outcome) ≡ told a
+-- `d` is what is decided
+pub record IsReading (w : Witness) (d : Decision) (after : ℕ) (r : Reading) : Type 0 where
+  pub outcome : outcomeOf (r .outcome) ≡ d .told
   pub next : r .next ≡ after
-  pub witness : r .witness ≡ store w a
+  pub witness : r .witness ≡ stored w d
 
 -- a header that is refused leaves the witness handed in; a right one begins an empty witness with its root's name
 

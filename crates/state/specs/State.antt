@@ -1,14 +1,13 @@
 -- The model that a witness holds, and the witness with something more.
-use Prim.Native.Nat.{ℕ, _+_, _*_, _<_, _^_}
-use mathlib.Core.Path.{_≡_}
-use mathlib.Core.List.{List}
-use lib.ListN.{length, getD, set, replicate}
+use Prim.Native.Nat.{ℕ, _+_, _*_}
+use mathlib.Core.List.{List, [], _∷_}
+use lib.ListN.{getD, set, replicate}
 use lib.Seq.{paste}
-use Rattle.model.specs.Answer.{Answer, refused, answer}
 use Rattle.model.specs.Bytes.{part}
+use Rattle.model.specs.Change.{Change, addMember, addCheckpoint, addVote, Decision}
 use Rattle.model.specs.Limits.{memberLimit, checkpointLimit, voteLimit}
 use Rattle.model.specs.Lists.{tabulate}
-use Rattle.model.specs.Model.{Member, Checkpoint, Vote, Model, Change, nothing, addMember, addCheckpoint, addVote}
+use Rattle.model.specs.Model.{Member, Checkpoint, Vote, Model}
 use Rattle.model.specs.declared.Place.{Place}
 use Rattle.model.specs.declared.Height.{Height}
 use Rattle.state.specs.declared.Witness.{Witness}
@@ -39,93 +38,117 @@ modelOf w =
       votes = tabulate (w .«vote_count») (voteIn w);
     }
 
+-- the three parts of a state, each with the count of what it holds
+
+pub record MemberPart : Type 0 where
+  pub ids : List ℕ
+  pub bonds : List ℕ
+  pub count : ℕ
+
+pub record TreePart : Type 0 where
+  pub names : List ℕ
+  pub parents : List Place
+  pub heights : List Height
+  pub count : ℕ
+
+pub record VotePart : Type 0 where
+  pub voters : List ℕ
+  pub sources : List Place
+  pub targets : List Place
+  pub count : ℕ
+
+abbrev pub memberPart : Witness → MemberPart
+memberPart w = record { ids = w .ids; bonds = w .bonds; count = w .«member_count» }
+
+abbrev pub treePart : Witness → TreePart
+treePart w = record { names = w .names; parents = w .parents; heights = w .heights; count = w .«checkpoint_count» }
+
+abbrev pub votePart : Witness → VotePart
+votePart w = record { voters = w .voters; sources = w .sources; targets = w .targets; count = w .«vote_count» }
+
+abbrev pub witnessOf : MemberPart → TreePart → VotePart → Witness
+witnessOf m t v =
+    record {
+      ids = m .ids;
+      bonds = m .bonds;
+      names = t .names;
+      parents = t .parents;
+      heights = t .heights;
+      voters = v .voters;
+      sources = v .sources;
+      targets = v .targets;
+      «member_count» = m .count;
+      «checkpoint_count» = t .count;
+      «vote_count» = v .count;
+    }
+
+-- a state with another part
+
+abbrev pub withMemberPart : Witness → MemberPart → Witness
+withMemberPart w p = witnessOf p (treePart w) (votePart w)
+
+abbrev pub withTreePart : Witness → TreePart → Witness
+withTreePart w p = witnessOf (memberPart w) p (votePart w)
+
+abbrev pub withVotePart : Witness → VotePart → Witness
+withVotePart w p = witnessOf (memberPart w) (treePart w) p
+
 -- one more of each, at the end; the array's later entries stay as they are
 
 unfoldable pub withMember : Witness → Member → Witness
 withMember w x =
-    record {
-      ids = set (w .ids) (w .«member_count») (x .id);
-      bonds = set (w .bonds) (w .«member_count») (x .bond);
-      names = w .names;
-      parents = w .parents;
-      heights = w .heights;
-      voters = w .voters;
-      sources = w .sources;
-      targets = w .targets;
-      «member_count» = w .«member_count» + 1;
-      «checkpoint_count» = w .«checkpoint_count»;
-      «vote_count» = w .«vote_count»;
-    }
+    let n = w .«member_count» in
+    withMemberPart w (record { ids = set (w .ids) n (x .id); bonds = set (w .bonds) n (x .bond); count = n + 1 })
 
 unfoldable pub withCheckpoint : Witness → Checkpoint → Witness
 withCheckpoint w c =
-    record {
-      ids = w .ids;
-      bonds = w .bonds;
-      names = paste (w .names) (w .«checkpoint_count» * 32) (c .name) 32;
-      parents = set (w .parents) (w .«checkpoint_count») (place (c .parent));
-      heights = set (w .heights) (w .«checkpoint_count») (height (c .height));
-      voters = w .voters;
-      sources = w .sources;
-      targets = w .targets;
-      «member_count» = w .«member_count»;
-      «checkpoint_count» = w .«checkpoint_count» + 1;
-      «vote_count» = w .«vote_count»;
-    }
+    let n = w .«checkpoint_count» in
+    withTreePart w
+    (record {
+      names = paste (w .names) (n * 32) (c .name) 32;
+      parents = set (w .parents) n (place (c .parent));
+      heights = set (w .heights) n (height (c .height));
+      count = n + 1;
+    })
 
 unfoldable pub withVote : Witness → Vote → Witness
 withVote w v =
-    record {
-      ids = w .ids;
-      bonds = w .bonds;
-      names = w .names;
-      parents = w .parents;
-      heights = w .heights;
-      voters = set (w .voters) (w .«vote_count») (v .voter);
-      sources = set (w .sources) (w .«vote_count») (place (v .source));
-      targets = set (w .targets) (w .«vote_count») (place (v .target));
-      «member_count» = w .«member_count»;
-      «checkpoint_count» = w .«checkpoint_count»;
-      «vote_count» = w .«vote_count» + 1;
-    }
+    let n = w .«vote_count» in
+    withVotePart w
+    (record {
+      voters = set (w .voters) n (v .voter);
+      sources = set (w .sources) n (place (v .source));
+      targets = set (w .targets) n (place (v .target));
+      count = n + 1;
+    })
 
--- what was decided, stored; a refusal changes nothing
-unfoldable pub store : Witness → Answer Change → Witness
-store w (refused n) = w
-store w (answer nothing) = w
-store w (answer (addMember x)) = withMember w x
-store w (answer (addCheckpoint c)) = withCheckpoint w c
-store w (answer (addVote v)) = withVote w v
+-- a change, stored
+unfoldable pub store : Witness → Change → Witness
+store w (addMember x) = withMember w x
+store w (addCheckpoint c) = withCheckpoint w c
+store w (addVote v) = withVote w v
 
--- what the types of the fields say: the arrays' lengths, and that an id is of 16 bits
+unfoldable pub storeAll : Witness → List Change → Witness
+storeAll w [] = w
+storeAll w (c ∷ cs) = storeAll (store w c) cs
 
-pub record Sized (w : Witness) : Type 0 where
-  pub ids : length (w .ids) ≡ memberLimit
-  pub bonds : length (w .bonds) ≡ memberLimit
-  pub names : length (w .names) ≡ 32 * checkpointLimit
-  pub parents : length (w .parents) ≡ checkpointLimit
-  pub heights : length (w .heights) ≡ checkpointLimit
-  pub voters : length (w .voters) ≡ voteLimit
-  pub sources : length (w .sources) ≡ voteLimit
-  pub targets : length (w .targets) ≡ voteLimit
-
-pub record Typed (w : Witness) : Type 0 where
-  pub sized : Sized w
-  pub ids : (i : ℕ) → getD (w .ids) i 0 < 2 ^ 16
+-- what was decided, stored
+abbrev pub stored : Witness → Decision → Witness
+stored w d = storeAll w (d .changes)
 
 -- "A right header begins an empty witness with that root."
 unfoldable pub emptyWitness : List ℕ → Witness
 emptyWitness name =
-    record {
-      ids = replicate memberLimit 0;
-      bonds = replicate memberLimit 0;
+    witnessOf (record { ids = replicate memberLimit 0; bonds = replicate memberLimit 0; count = 0 })
+    (record {
       names = paste (replicate (32 * checkpointLimit) 0) 0 name 32;
       parents = replicate checkpointLimit (place 0);
       heights = replicate checkpointLimit (height 0);
+      count = 1;
+    })
+    (record {
       voters = replicate voteLimit 0;
       sources = replicate voteLimit (place 0);
       targets = replicate voteLimit (place 0);
-      «member_count» = 0;
-      «checkpoint_count» = 1;
-      «vote_count» = 0;
-    }
+      count = 0;
+    })

@@ -1,10 +1,11 @@
 -- How the arrays, and the votes' numbers beside them, hold a model: what the searches over them find is what the model's searches
 -- find.
-use Prim.Native.Nat.{ℕ, _<_}
+use Prim.Native.Nat.{ℕ, _+_, _<_, _≤_}
 use mathlib.Core.Path.{_≡_}
 use mathlib.Core.List.{List}
 use lib.ListN.{length, getD, take}
 use lib.Dec.{eqb}
+use Rattle.model.specs.Limits.{rootHeightLimit}
 use Rattle.model.specs.Lists.{firstIndex, anyBelow, sameBytes}
 use Rattle.model.specs.Model.{Model, Vote, memberIndex, placeOf, heightOf, voteHeld}
 use Rattle.model.specs.Tree.{ancestor?}
@@ -14,6 +15,8 @@ use Rattle.tables.specs.Keys.{pack}
 use Rattle.tables.specs.Places.{treeOf}
 use Rattle.tables.specs.Rows.{rows}
 use Rattle.state.specs.State.{height}
+use Rattle.state.specs.declared.Counts.{Counts}
+use Rattle.state.specs.declared.Witness.{Witness}
 
 pub record MembersHeld (m : Model) (ids : List ℕ) (n : ℕ) : Type 0 where
   pub count : length (m .members) ≡ n
@@ -38,14 +41,17 @@ pub record KeysHeld (m : Model) (keys : List ℕ) (n : ℕ) : Type 0 where
   pub count : length (m .votes) ≡ n
   pub held : (v : Vote) → v .source < 65536 → v .target < 65536 → voteHeld (m .votes) v ≡ anyBelow n (λ k. eqb (getD keys k 0) (keyOf v))
 
--- all of them
-pub record Held (m : Model) (ids : List ℕ) (members : ℕ) (names : List ℕ) (parents : List Place) (heights : List Height) (checkpoints : ℕ) (keys : List ℕ) (votes : ℕ) : Type 0 where
-  pub members-held : MembersHeld m ids members
-  pub names-held : NamesHeld m names checkpoints
-  pub heights-held : HeightsHeld m heights checkpoints
-  pub ancestors-held : AncestorsHeld m parents checkpoints
-  pub keys-held : KeysHeld m keys votes
+abbrev pub countsOf : Witness → Counts
+countsOf w = record { members = w .«member_count»; checkpoints = w .«checkpoint_count»; votes = w .«vote_count» }
 
--- no height is so large that a child's would not fit
+-- all of them
+pub record Held (m : Model) (n : Counts) (ids names : List ℕ) (parents : List Place) (heights : List Height) (keys : List ℕ) : Type 0 where
+  pub members-held : MembersHeld m ids (n .members)
+  pub names-held : NamesHeld m names (n .checkpoints)
+  pub heights-held : HeightsHeld m heights (n .checkpoints)
+  pub ancestors-held : AncestorsHeld m parents (n .checkpoints)
+  pub keys-held : KeysHeld m keys (n .votes)
+
+-- no checkpoint is higher above the greatest height of a root than its place says, so that a child's height fits
 abbrev pub Low : ℕ → List Height → Type 0
-Low n heights = (i : ℕ) → i < n → getD heights i (height 0) .0 < 4294967295
+Low n heights = (i : ℕ) → i < n → getD heights i (height 0) .0 ≤ rootHeightLimit + i

@@ -34,6 +34,13 @@ pub struct Witness {
     pub vote_count: usize,
 }
 
+// How many of each are held.
+pub struct Counts {
+    pub members: usize,
+    pub checkpoints: usize,
+    pub votes: usize,
+}
+
 // What reading a record comes to.
 pub enum Outcome {
     Nothing,

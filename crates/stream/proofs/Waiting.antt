@@ -8,13 +8,13 @@ use mathlib.Core.Bool.{true, false}
 use borrow.Author.Tests.{leb-false, le-ltb, ne-eqb}
 use lib.Dec.{eqb, ltb}
 use lib.ListN.{length}
-use Rattle.model.specs.Answer.{Answer, refused, answer}
-use Rattle.model.specs.Log.{recordSize}
-use Rattle.model.specs.Model.{Change, nothing}
+use Rattle.model.specs.Change.{single}
+use Rattle.model.specs.Decide.{decideRecord, decide}
+use Rattle.model.specs.Log.{Record, recordSize}
+use Rattle.model.proofs.Log.{Begins, begins-cut, none-at}
 use Rattle.state.specs.State.{modelOf}
 use Rattle.state.specs.declared.Witness.{Witness}
-use Rattle.rules.proofs.ByKind.{Decided, nothing-left, cut-record}
-use Rattle.witness.specs.Calls.{sound?}
+use Rattle.state.specs.Sound.{sound?}
 use Rattle.report.specs.Feed.{wants, pausedAt, lineRoom, lastNumber, halted, feedFrom, onSound, feedCall}
 use Rattle.report.proofs.Pieces.{open-waits}
 use Rattle.buffered.specs.Hold.{whole?, ready?}
@@ -22,20 +22,18 @@ use Rattle.stream.specs.Turns.{callOf, CallWaits}
 
 module _ (room : ℕ) (w : Witness) (k : ℕ) (s : List ℕ) (sound : sound? w ≡ true) (fits : lineRoom ≤ room) (numbered : k < lastNumber) where
   -- where no record can be passed
-  feed-halts : (a : Answer Change) → Decided (modelOf w) s a 0 → halted a w k ≡ pausedAt [] wants w k → feedCall room w k s ≡ pausedAt [] wants w k
-  unfolding feedCall onSound feedFrom
-  feed-halts a is halts =
+  feed-halts : {r : Record} → Begins s r 0 → halted (decideRecord (modelOf w) r .told) w k ≡ pausedAt [] wants w k → feedCall room w k s ≡ pausedAt [] wants w k
+  unfolding feedCall onSound feedFrom decide
+  feed-halts is halts =
       let roomy : ltb room lineRoom ≡ false = le-ltb room lineRoom fits in
       let other : eqb k lastNumber ≡ false = ne-eqb k lastNumber (λ e. omega (arith, e, numbered)) in
-      rw (sound, add-one, roomy, other, is .passed, is .answer) halts
+      rw (sound, add-one, roomy, other, is .long, is .decoded) halts
 
 feed-waits : (room : ℕ) (w : Witness) (k : ℕ) (s : List ℕ) → sound? w ≡ true → lineRoom ≤ room → k < lastNumber → whole? s ≡ false → feedCall room w k s ≡ pausedAt [] wants w k
-unfolding whole? halted
-feed-waits room w k [] sound fits numbered e = feed-halts room w k [] sound fits numbered (answer nothing) (nothing-left (modelOf w) 0 [] (omega arith)) refl
-feed-waits room w k (kind ∷ rest) sound fits numbered e =
-    let short : length (kind ∷ rest) < recordSize kind = leb-false (recordSize kind) (length (kind ∷ rest)) e in
-    feed-halts room w k (kind ∷ rest) sound fits numbered (refused 5)
-    (cut-record (modelOf w) 0 (kind ∷ rest) (omega arith) refl {n = recordSize kind} refl (omega (arith, short)) (omega (arith, short))) refl
+unfolding whole? halted decideRecord single
+feed-waits room w k [] sound fits numbered e = feed-halts room w k [] sound fits numbered (none-at 0 [] (omega arith)) refl
+feed-waits room w k (b ∷ rest) sound fits numbered e =
+    feed-halts room w k (b ∷ rest) sound fits numbered (begins-cut b rest (leb-false (recordSize b) (length (b ∷ rest)) e)) refl
 
 pub call-waits : CallWaits
 unfolding callOf ready?

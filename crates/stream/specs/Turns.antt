@@ -9,7 +9,7 @@ use lib.ListN.{length, take, drop, getD}
 use Rattle.state.specs.declared.Witness.{Witness}
 use Rattle.text.specs.Put.{Put}
 use Rattle.report.specs.Feed.{Paused, wants, full, outOfNumbers, ended, refusedBy, Feeding, pausedAt, lineRoom, lastNumber, openCall, feedCall}
-use Rattle.witness.specs.Calls.{sound?}
+use Rattle.state.specs.Sound.{sound?}
 use Rattle.buffered.specs.Hold.{ready?, IsFilled}
 use Rattle.stream.specs.declared.Fate.{Fate}
 use Rattle.stream.specs.declared.Fate.the-variants.{Open, Whole, Ended, Failed}

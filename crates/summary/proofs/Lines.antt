@@ -8,21 +8,20 @@ use lib.ListN.{length, getD, take}
 use lib.Seq.{take-suc}
 use Rattle.model.specs.Evidence.{Conduct, conduct, violator?, byId}
 use Rattle.model.specs.Finality.{status, conflicting?}
-use Rattle.model.specs.Model.{Member, memberAt}
+use Rattle.model.specs.Model.{Checkpoint, Member, memberAt}
 use Rattle.model.specs.Report.{checkpointText, checkpointLine, checkpointLines, memberText, memberLine, totalText, totalLine, summary}
 use Rattle.model.specs.Support.{sum, total}
 use Rattle.model.specs.declared.Status.{Status}
 use Rattle.state.specs.declared.Witness.{Witness}
 use Rattle.state.specs.State.{memberIn, height, modelOf}
-use Rattle.state.proofs.Kept.{count-checkpoints}
+use Rattle.state.proofs.Entries.{count-checkpoints, member-is, checkpoint-is}
 use Rattle.tally.specs.Bits.{sumBelow}
-use Rattle.tally.proofs.Backed.{all-sum}
+use Rattle.tally.proofs.Totals.{all-sum}
 use Rattle.conduct.specs.Held.{Ordered}
 use Rattle.evidence.proofs.Bytes.{flat-snoc}
 use Rattle.conduct.proofs.Members.{ids-held}
 use Rattle.text.specs.Put.{Put}
 use Rattle.text.proofs.Putting.{none, spelled, next}
-use Rattle.summary.proofs.Held.{member-in, height-in}
 
 -- the line of the member at a place
 abbrev pub lineAt : Witness → ℕ → List ℕ
@@ -40,7 +39,7 @@ module _ (w : Witness) (l : List ℕ) (at : ℕ) where
   unfolding checkpointLines checkpointLine
   checkpoints-more p inside stands before line =
       spelled (next before line)
-      (ap₂ (λ (h : ℕ) (s : Status). checkpointLines (modelOf w) p ++ checkpointText p h s) (sym (height-in w p inside)) stands
+      (ap₂ (λ (h : ℕ) (s : Status). checkpointLines (modelOf w) p ++ checkpointText p h s) (sym (ap (λ (c : Checkpoint). c .height) (checkpoint-is w p inside))) stands
       ∙ ap (checkpointLines (modelOf w)) (sym (add-one p)))
 
   pub members-none : at ≤ length l → Put l at (flatMap (lineAt w) []) l at
@@ -57,7 +56,7 @@ module _ (w : Witness) (l : List ℕ) (at : ℕ) where
       let p = getD places k 0 in
       let x : Member = memberIn w p in
       spelled (next before line)
-      (ap (λ (t : List ℕ). flatMap (lineAt w) (take k places) ++ t) (ap (memberText (x .id) (x .bond)) found ∙ ap (memberLine (modelOf w)) (sym (member-in w p held)))
+      (ap (λ (t : List ℕ). flatMap (lineAt w) (take k places) ++ t) (ap (memberText (x .id) (x .bond)) found ∙ ap (memberLine (modelOf w)) (sym (member-is w p held)))
       ∙ sym (flat-snoc (lineAt w) (take k places) p)
       ∙ ap (flatMap (lineAt w)) (sym (take-suc places k 0 inside) ∙ ap (λ (i : ℕ). take i places) (sym (add-one k))))
 

@@ -13,11 +13,10 @@ use Rattle.model.specs.Model.{Member, noMember, memberAt}
 use Rattle.model.specs.Support.{sum, total}
 use Rattle.state.specs.declared.Witness.{Witness}
 use Rattle.state.specs.State.{modelOf}
-use Rattle.state.proofs.Kept.{count-members}
-use Rattle.tally.specs.Ready.{Sound}
+use Rattle.state.proofs.Entries.{count-members, member-is}
+use Rattle.state.specs.Sound.{Sound}
 use Rattle.tally.proofs.Bits.{sum-bound}
-use Rattle.tally.proofs.Backed.{all-sum, bonds-good}
-use Rattle.summary.proofs.Held.{member-in}
+use Rattle.tally.proofs.Totals.{all-sum, bonds-good}
 
 part-least : (b : Bool) (x : ℕ) → cond b x 0 ≤ x
 part-least true x = omega arith
@@ -47,7 +46,7 @@ module _ (w : Witness) where
   summed-more i s {b} {shown} inside is found so =
       let bond = getD (w .bonds) i 0 in
       let here : cond (broke (memberAt members i)) (memberAt members i .bond) 0 ≡ cond b bond 0 =
-      ap (λ (x : Member). cond (broke x) (x .bond) 0) (member-in w i inside) ∙ ap (λ (k : Bool). cond k bond 0) (sym (is ∙ ap broken? found)) in
+      ap (λ (x : Member). cond (broke x) (x .bond) 0) (member-is w i inside) ∙ ap (λ (k : Bool). cond k bond 0) (sym (is ∙ ap broken? found)) in
       let step : sum broke (drop i members) ≡ cond b bond 0 + sum broke (drop (i + 1) members) =
       ap (sum broke) (drop-cons members i noMember (omega (arith, count-members w)))
       ∙ ap₂ (λ (x k : ℕ). x + sum broke (drop k members)) here (sym (add-one i)) in
@@ -60,5 +59,5 @@ module _ (w : Witness) where
   -- no sum of 128 bonds is too large
   pub named-bound : Sound w → sum broke members ≤ 128 * bondLimit
   named-bound h =
-      let bonds = bonds-good w (h .typed) (h .good) in
+      let bonds = bonds-good w h in
       omega (arith, part-total broke members, all-sum w, sum-bound (w .«member_count») bondLimit (λ i. true) (λ i. getD (w .bonds) i 0) (bonds .each), bonds .fit)

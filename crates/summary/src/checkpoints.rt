@@ -5,7 +5,7 @@ ghost use Prim.Native.Nat.{_+_, _*_, _≤_};
 ghost use lib.ListN.{length};
 ghost use Rattle.model.specs.Report.{checkpointLines};
 ghost use Rattle.state.specs.State.{modelOf};
-ghost use Rattle.tally.specs.Ready.{Sound};
+ghost use Rattle.state.specs.Sound.{Sound};
 ghost use Rattle.text.specs.Put.{Put};
 
 pub fn checkpoint_lines(w: Witness, buf: &mut [u8], at: usize) -> usize

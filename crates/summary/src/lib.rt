@@ -7,7 +7,7 @@ ghost use Prim.Native.Nat.{_≤_};
 ghost use lib.ListN.{length};
 ghost use Rattle.model.specs.Report as Report;
 ghost use Rattle.state.specs.State.{modelOf};
-ghost use Rattle.tally.specs.Ready.{Sound};
+ghost use Rattle.state.specs.Sound.{Sound};
 ghost use Rattle.text.specs.Put.{Put};
 
 // The summary, at the start of the buffer; answers its length. 512 lines of 80 bytes, 128 of 112 and one of 80 fit.

@@ -11,7 +11,7 @@ ghost use Rattle.model.specs.Report.{memberText, memberLine};
 ghost use Rattle.model.specs.Support.{sum};
 ghost use Rattle.state.specs.State.{modelOf};
 ghost use Rattle.conduct.specs.Shown.{conductOf, Shown};
-ghost use Rattle.tally.specs.Ready.{Sound};
+ghost use Rattle.state.specs.Sound.{Sound};
 ghost use Rattle.text.specs.Put.{Put};
 
 // A member's line.

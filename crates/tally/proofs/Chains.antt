@@ -10,14 +10,12 @@ use lib.Dec.{eqb}
 use lib.ListN.{length, getD, set, replicate, length-set, length-replicate, getD-replicate}
 use lib.Seq.{getD-set-same, getD-set-other}
 use Rattle.model.specs.declared.Place.{Place}
-use Rattle.model.specs.Lists.{anyBelow}
 use Rattle.model.proofs.Lists.{decided}
 use Rattle.tables.specs.Places.{placeAt}
-use Rattle.search.specs.Chains.{Chain}
 use Rattle.search.proofs.Chains.{Walked, walked-none, walked-more, walked-all}
 use Rattle.tally.specs.declared.voters.Voters.{Voters}
 use Rattle.tally.specs.Bits.{among}
-use Rattle.tally.specs.Chains.{nobody, casts, Walkable}
+use Rattle.tally.specs.Chains.{nobody, casts, Walkable, Tallied}
 use Rattle.tally.proofs.Bits.{among-none}
 
 eqb-comm : (a b : ℕ) → eqb a b ≡ eqb b a
@@ -75,5 +73,6 @@ module _ (who : List ℕ) (sources : List Place) (next : List ℕ) (from : ℕ) 
           ap (λ (u : Voters). among u i) (getD-set-other tally src s v nobody (λ q. eqb-false src s e (sym q)))
           ∙ sym (ap (_||_ (among (getD tally s nobody) i)) (ap (_&&_ (eqb (getD who k 0) i)) e ∙ and-false (eqb (getD who k 0) i)) ∙ or-false (among (getD tally s nobody) i))
 
-  pub gathered-all : {at : ℕ} {tally : List Voters} → at ≤ 0 → Gathered who sources next from tally at → (on : ℕ → Bool) (count : ℕ) → Chain on count next from → (s i : ℕ) → s < 512 → among (getD tally s nobody) i ≡ anyBelow count (λ k. on k && casts who sources s i k)
+  pub gathered-all : {at : ℕ} {tally : List Voters}
+      → at ≤ 0 → Gathered who sources next from tally at → Tallied who sources next from tally
   gathered-all z so on count chain s i h = walked-all (casts who sources s i) next from z (so .each s i h) on count chain

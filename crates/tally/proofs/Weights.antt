@@ -7,13 +7,13 @@ use mathlib.Core.Bool.{Bool, false, cond}
 use mathlib.Core.Logic.{⊎-elim}
 use lib.ListN.{getD}
 use Rattle.model.specs.Limits.{bondLimit}
-use Rattle.model.specs.Support.{quorum}
 use Rattle.model.proofs.Lists.{lt-or-ge}
 use Rattle.model.proofs.Support.{no-quorum}
 use Rattle.tally.specs.declared.voters.Voters.{Voters}
+use Rattle.tally.specs.declared.voters.Quota.{Quota}
 use Rattle.tally.specs.Bits.{among, sumBelow}
 use Rattle.tally.specs.Chains.{nobody}
-use Rattle.tally.specs.Weights.{Bonds, weightOf, carried}
+use Rattle.tally.specs.Weights.{Bonds, weightOf, enough, carried}
 use Rattle.tally.proofs.Bits.{among-none, sum-bound}
 
 pub sum-zero : (n : ℕ) (p : ℕ → Bool) (f : ℕ → ℕ) → ((i : ℕ) → i < n → p i ≡ false) → sumBelow n p f ≡ 0
@@ -22,16 +22,17 @@ sum-zero zero p f h = refl
 sum-zero (suc n) p f h = omega (arith, sum-zero n p f (λ i l. h i (omega arith)), ap (λ (b : Bool). cond b (f n) 0) (h n (omega arith)))
 
 module _ (bonds : List ℕ) (members : ℕ) where
-  pub nobody-carries : (total : ℕ) (v : Voters) → v .lo ≡ 0 → v .hi ≡ 0 → false ≡ carried bonds members total v
-  nobody-carries total v lo hi =
+  pub nobody-carries : (quota : Quota) (v : Voters) → v .lo ≡ 0 → v .hi ≡ 0 → false ≡ carried bonds members quota v
+  nobody-carries quota v lo hi =
       let e : v ≡ nobody = λ i. record { lo = lo i; hi = hi i } in
       sym
-      (ap (carried bonds members total) e
-      ∙ ap (λ (x : ℕ). quorum x total) (sum-zero members (among nobody) (λ i. getD bonds i 0) (λ i h. among-none i))
-      ∙ no-quorum total)
+      (ap (carried bonds members quota) e
+      ∙ ap (λ (x : ℕ). enough x quota) (sum-zero members (among nobody) (λ i. getD bonds i 0) (λ i h. among-none i))
+      ∙ no-quorum (quota .total))
 
-  pub weight-bound : (v : Voters) → Bonds bonds members → weightOf bonds members v ≤ 128 * bondLimit
-  weight-bound v h = omega (arith, sum-bound members bondLimit (among v) (λ i. getD bonds i 0) (h .each), h .fit)
+  pub weight-bound : (v : Voters) {weight : ℕ}
+      → Bonds bonds members → weight ≡ weightOf bonds members v → weight ≤ 128 * bondLimit
+  weight-bound v h e = omega (arith, sum-bound members bondLimit (among v) (λ i. getD bonds i 0) (h .each), h .fit)
 
 -- numbers from n on that fail the test add nothing
 pub sum-more : (k n : ℕ) (p : ℕ → Bool) (f : ℕ → ℕ) → n ≤ k → ((i : ℕ) → n ≤ i → p i ≡ false) → sumBelow k p f ≡ sumBelow n p f

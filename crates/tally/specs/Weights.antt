@@ -1,11 +1,14 @@
--- What the members behind a link weigh.
-use Prim.Native.Nat.{ℕ, _<_, _≤_}
+-- What the members behind a link weigh, and what a quorum is measured against.
+use Prim.Native.Nat.{ℕ, _*_, _<_, _≤_}
+use mathlib.Core.Path.{_≡_}
 use mathlib.Core.List.{List}
 use mathlib.Core.Bool.{Bool}
 use lib.ListN.{length, getD}
 use Rattle.model.specs.Limits.{memberLimit, bondLimit}
-use Rattle.model.specs.Support.{quorum}
+use Rattle.model.specs.Model.{Model}
+use Rattle.model.specs.Support.{total, quorum}
 use Rattle.tally.specs.declared.voters.Voters.{Voters}
+use Rattle.tally.specs.declared.voters.Quota.{Quota}
 use Rattle.tally.specs.Bits.{among, sumBelow}
 
 -- the first `members` bonds are there, and none is above the limit
@@ -18,6 +21,18 @@ pub record Bonds (bonds : List ℕ) (members : ℕ) : Type 0 where
 abbrev pub weightOf : List ℕ → ℕ → Voters → ℕ
 weightOf bonds members v = sumBelow members (among v) (λ i. getD bonds i 0)
 
+-- a quota whose numbers are small enough to be multiplied
+pub record Fits (quota : Quota) : Type 0 where
+  pub whole : quota .total ≤ memberLimit * bondLimit
+
+-- the quota of a model's members
+pub record IsQuota (m : Model) (quota : Quota) : Type 0 where
+  pub whole : quota .total ≡ total (m .members)
+
+-- bonds that come to `part` are a supermajority
+abbrev pub enough : ℕ → Quota → Bool
+enough part quota = quorum part (quota .total)
+
 -- these voters are a supermajority
-abbrev pub carried : List ℕ → ℕ → ℕ → Voters → Bool
-carried bonds members total v = quorum (weightOf bonds members v) total
+abbrev pub carried : List ℕ → ℕ → Quota → Voters → Bool
+carried bonds members quota v = enough (weightOf bonds members v) quota

@@ -5,9 +5,8 @@ ghost use Prim.Native.Nat.{ℕ, _*_, _≤_, _<_};
 ghost use lib.Dec.{eqb};
 ghost use lib.ListN.{getD};
 ghost use Rattle.model.specs.Limits.{memberLimit, bondLimit};
-ghost use Rattle.model.specs.Support.{quorum};
 ghost use Rattle.tally.specs.Bits.{among, sumBelow, countBelow};
-ghost use Rattle.tally.specs.Weights.{Bonds, weightOf, carried};
+ghost use Rattle.tally.specs.Weights.{Bonds, Fits, weightOf, enough, carried};
 
 // The members behind a link as 128 bits: the member at place i is bit i, in `lo` below 64 and in `hi` from there on.
 pub struct Voters {
@@ -80,23 +79,29 @@ pub fn total_bond(bonds: &[u64], members: usize) -> u64
     weigh(everybody, bonds, members)
 }
 
+// What a quorum is measured against: the bonds of all members.
+pub struct Quota {
+    pub total: u64,
+}
+
 // Document 01's supermajority. No sum of 128 bonds is so large that three times it would not fit.
-pub fn is_quorum(part: u64, whole: u64) -> bool
-    requires { ⌜ (part ≤ memberLimit * bondLimit) × (whole ≤ memberLimit * bondLimit) ⌝ }
-    ensures { λ r. ⌜ r ≡ quorum part whole ⌝ }
+pub fn is_quorum(part: u64, quota: Quota) -> bool
+    requires { ⌜ (part ≤ memberLimit * bondLimit) × Fits quota ⌝ }
+    ensures { λ r. ⌜ r ≡ enough part quota ⌝ }
 {
+    let whole = quota.total;
     (0 < whole) & (2 * whole <= 3 * part)
 }
 
-// Whether they are a supermajority of the members whose bonds come to `total`.
-pub fn carries(v: Voters, bonds: &[u64], members: usize, total: u64) -> bool
-    requires { ⌜ Bonds (now bonds) members × (total ≤ memberLimit * bondLimit) ⌝ }
-    ensures { λ r. ⌜ r ≡ carried (now (bonds .entry)) members total v ⌝ }
+// Whether these voters are a supermajority.
+pub fn carries(v: Voters, bonds: &[u64], members: usize, quota: Quota) -> bool
+    requires { ⌜ Bonds (now bonds) members × Fits quota ⌝ }
+    ensures { λ r. ⌜ r ≡ carried (now (bonds .entry)) members quota v ⌝ }
 {
     if v.lo == 0 {
         if v.hi == 0 {
             return false;
         }
     }
-    is_quorum(weigh(v, bonds, members), total)
+    is_quorum(weigh(v, bonds, members), quota)
 }

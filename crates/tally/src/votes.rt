@@ -1,4 +1,5 @@
 // The votes by target, and the voters of every link to one target.
+use crate::voters::Quota;
 use crate::voters::Voters;
 use crate::voters::insert;
 use crate::voters::total_bond;
@@ -6,18 +7,13 @@ use model::MAX_CHECKPOINTS;
 use model::MAX_VOTES;
 use model::Place;
 use state::Witness;
-ghost use mathlib.Core.Path.{_≡_};
-ghost use mathlib.Core.Bool.{Bool, _&&_};
 ghost use Prim.Native.Nat.{ℕ, _≤_, _<_};
-ghost use lib.Dec.{eqb};
-ghost use lib.ListN.{length, getD, take};
+ghost use lib.ListN.{length};
 ghost use Rattle.model.specs.Limits.{memberLimit, checkpointLimit, voteLimit};
-ghost use Rattle.model.specs.Lists.{firstIndex, anyBelow};
 ghost use Rattle.tables.specs.Places.{placeAt};
-ghost use Rattle.search.specs.Chains.{Chain};
-ghost use Rattle.tally.specs.Bits.{among};
-ghost use Rattle.tally.specs.Chains.{ByTarget, Walkable, nobody, casts};
-ghost use Rattle.tally.specs.Ready.{Sound, Ready};
+ghost use Rattle.state.specs.Sound.{Sound};
+ghost use Rattle.tally.specs.Chains.{Placed, ByTarget, Walkable, Tallied};
+ghost use Rattle.tally.specs.Ready.{Ready};
 
 // The place of each vote's member.
 pub fn member_places<'a>(
@@ -29,10 +25,7 @@ pub fn member_places<'a>(
     requires { ⌜
         (members ≤ length (now ids)) × (members ≤ memberLimit) × (count ≤ length (now voters)) × (count ≤ voteLimit)
         ⌝ }
-    ensures { λ r. ⌜
-        ((k : ℕ) → k < count → getD r k 0 ≡ firstIndex (λ x. eqb x (getD (now (voters .entry)) k 0))
-        (take members (now (ids .entry))))
-        ⌝ }
+    ensures { λ r. ⌜ Placed (now (ids .entry)) members (now (voters .entry)) count r ⌝ }
 {
     let mut places = [0u16; MAX_VOTES];
     let mut k: usize = 0;
@@ -68,13 +61,12 @@ pub fn bucket(targets: [Place; MAX_VOTES], count: usize) -> Buckets
     Buckets { head, next }
 }
 
-// The votes of a witness, ready to be counted: the place of each vote's member, the votes in chains, and the total
-// bond.
+// The votes of a witness, ready to be counted: the place of each vote's member, the votes in chains, and the quota.
 pub struct Ballots {
     pub who: [u16; MAX_VOTES],
     pub head: [u16; MAX_CHECKPOINTS],
     pub next: [u16; MAX_VOTES],
-    pub total: u64,
+    pub quota: Quota,
 }
 
 // Makes the votes of a sound state ready.
@@ -90,11 +82,12 @@ pub fn prepare(w: Witness) -> Ballots
     let head = chains.head;
     let next = chains.next;
     let total = total_bond(&w.bonds, members);
+    let quota = Quota { total };
     Ballots {
         who,
         head,
         next,
-        total,
+        quota,
     }
 }
 
@@ -106,13 +99,7 @@ pub fn gather<'a>(
     from: u16,
 ) -> [Voters; MAX_CHECKPOINTS]
     requires { ⌜ Walkable (now who) sources (now next) from ⌝ }
-    ensures { λ r. ⌜
-        ((on : ℕ → Bool) (count : ℕ)
-        → Chain on count (now (next .entry)) from
-        → (s i : ℕ)
-        → s < checkpointLimit
-        → among (getD r s nobody) i ≡ anyBelow count (λ k. on k && casts (now (who .entry)) sources s i k))
-        ⌝ }
+    ensures { λ r. ⌜ Tallied (now (who .entry)) sources (now (next .entry)) from r ⌝ }
 {
     let mut tally = [Voters { lo: 0, hi: 0 }; MAX_CHECKPOINTS];
     let mut at = from;

@@ -15,13 +15,16 @@ ghost use mathlib.Core.Path.{_≡_};
 ghost use Prim.Native.Nat.{_+_};
 ghost use lib.ListN.{length, drop};
 ghost use Rattle.model.specs.Bytes.{part};
+ghost use Rattle.model.specs.Evidence.{ourList};
 ghost use Rattle.model.specs.Log.{header};
+ghost use Rattle.model.specs.Run.{reading};
 ghost use Rattle.state.specs.Reading.{IsReading, IsBeginning};
 ghost use Rattle.reader.specs.Many.{IsBatch};
 ghost use Rattle.checker.specs.Check.{checkOf};
 ghost use Rattle.evidence.specs.Listed.{listAnswerOf};
-ghost use Rattle.witness.specs.Calls.{decided, passed, manyCall, checkCall, statusCall, supportCall};
-ghost use Rattle.witness.specs.Calls.{conflictCall, listCall, listBuffer};
+ghost use Rattle.witness.specs.Calls.{eventCall, checkCall, statusCall, supportCall};
+ghost use Rattle.witness.specs.Readings.{passed, manyCall};
+ghost use Rattle.witness.specs.Calls.{conflictCall, writeCall, writeBuffer};
 ghost use Rattle.witness.specs.Answers.{statusOf, supportOf, conflictOf};
 
 // What the calls answer: a value, or the refusal.
@@ -52,7 +55,7 @@ pub fn begin(w: Witness, log: &[u8]) -> Beginning
 // leaves the state as it was.
 pub fn read(w: Witness, log: &[u8], at: usize) -> Reading
     ensures { λ r. ⌜
-        IsReading w (decided w (drop at (now (log .entry)))) (at + passed w (drop at (now (log .entry)))) r
+        (let s = drop at (now (log .entry)) in IsReading w (eventCall w (reading s)) (at + passed w s) r)
         ⌝ }
 {
     if !sound::is_sound(w) {
@@ -143,8 +146,8 @@ pub fn conflict(w: Witness) -> ConflictAnswer
 // Our list of charges into a lent buffer: its length; 60 where the buffer is shorter, which is then unwritten.
 pub fn write_list(w: Witness, buf: &mut [u8]) -> ListAnswer
     ensures { λ r. ⌜
-        (listAnswerOf r ≡ listCall w (now (buf .entry)))
-        × (now (buf .exit) ≡ listBuffer w (now (buf .entry)) (listCall w (now (buf .entry))))
+        (listAnswerOf r ≡ writeCall ourList w (now (buf .entry)))
+        × (now (buf .exit) ≡ writeBuffer ourList w (now (buf .entry)))
         ⌝ }
 {
     if !sound::is_sound(w) {

@@ -55,7 +55,9 @@ same-length c = search needs
 
 returns : tie.Need-returns
 returns c =
-    let start = c .before .before .before .before .before .before .before .before .before .before .before in
+    let asked = c .before .before .before .before in
+    let read = asked .before .before .before in
+    let start = read .before .before .before .before in
     (filled (start .args .have) (c .count .result) (start .args .input .now) _ _ refl (omega (arith, start .pre)) (omega (arith, c .count .ensures .0 .0)), λ e. omega (arith, eqb-true (c .count .result) 0 (and-left _ _ e)))
 
 pub fill-spec : {M : Type 1} → statement M

@@ -1,5 +1,5 @@
--- `checker::check_entries` meets its contract. The loop's invariant: the entries left, from this floor and sum on, come to
--- what all of them come to; and the sum is at most the largest bond for each id below the floor. Assumes nothing.
+-- `checker::check_entries` meets its contract. The loop's invariant: the entries left, from this floor and sum on, come
+-- to what all of them come to; and the sum is at most the largest bond for each id below the floor. Assumes nothing.
 use Prim.Native.Nat.{_≤_, _-_, _+_, _*_}
 use native.Mathlib.Omega.{arith}
 use native.Mathlib.Nat.{sub-zero}
@@ -13,8 +13,9 @@ use Rattle.model.specs.Checker.{entries, checkFrom}
 use Rattle.model.specs.Evidence.{Charge}
 use Rattle.model.specs.Limits.{bondLimit}
 use Rattle.state.specs.State.{modelOf}
+use Rattle.state.specs.declared.Witness.{Witness}
 use Rattle.state.proofs.Held.{members-held}
-use Rattle.state.proofs.Kept.{count-members, count-votes}
+use Rattle.state.proofs.Sound.{ids-long, voters-long}
 use Rattle.entry.specs.Entry.{FoundIs, PairFound, entryAt}
 use Rattle.checker.proofs.Entries.{voters-held, next-entry, entries-none, Inside, inside, bond-small, last-row}
 use Rattle.checker.proofs.check_entries.Statement.{statement}
@@ -25,48 +26,66 @@ Inv-loop list count w members votes floor₀ sum₀ i₀ floor sum i =
     (i ≤ count)
     × (floor ≤ 65536)
     × (sum ≤ bondLimit * floor)
-    × (checkFrom (modelOf w) floor sum (entries (count - i) (drop (7 + 6 * i) list)) ≡ checkFrom (modelOf w) 0 0 (entries count (drop 7 list)))
+    × (checkFrom (modelOf w) floor sum (entries (count - i) (drop (7 + 6 * i) list))
+    ≡ checkFrom (modelOf w) 0 0 (entries count (drop 7 list)))
 
 abbrev μ-loop : tie.MeasureT-loop
 μ-loop list count w members votes floor₀ sum₀ i₀ floor sum i = count - i
 
--- after the call of `find_pair`: the function's entry, and the turn
-abbrev start : tie.After-find-pair Inv-loop μ-loop → tie.Start Inv-loop μ-loop
-start c = c .before .before .before .before .before .before .before .before .before
+-- ---- the way back: to the function's entry, to the turn, and to the arm of a pair
 
-abbrev turn : tie.After-find-pair Inv-loop μ-loop → tie.At-loop Inv-loop μ-loop
-turn c = c .before .before .before .before .before .before .before
+abbrev start : tie.In-loop Inv-loop μ-loop → tie.Start Inv-loop μ-loop
+start c = c .before .before .before
 
-abbrev entry : tie.After-find-pair Inv-loop μ-loop → Charge
-entry c = entryAt (7 + 6 * turn c .loop .i) (start c .args .list .now)
+abbrev turn : tie.After-find-pair Inv-loop μ-loop → tie.In-loop Inv-loop μ-loop
+turn c = c .before .before .before .before .before .before
+
+abbrev told : tie.After-breaks Inv-loop μ-loop → tie.After-known-told2 Inv-loop μ-loop
+told c = c .before .before .before .before .before
+
+abbrev looked-up : tie.After-member Inv-loop μ-loop → tie.After-find-pair Inv-loop μ-loop
+looked-up c = c .before .before
+
+-- ---- what is known there
+
+abbrev w : tie.In-loop Inv-loop μ-loop → Witness
+w c = start c .args .t1
+
+abbrev entry : tie.In-loop Inv-loop μ-loop → Charge
+entry c = entryAt (7 + 6 * c .before .loop .i) (start c .args .list .now)
 
 -- what `find_pair` found
-found : (c : tie.After-find-pair Inv-loop μ-loop) → FoundIs (modelOf (start c .args .t1)) (turn c .loop .floor) (entry c) (c .find-pair .result)
+found : (c : tie.After-find-pair Inv-loop μ-loop)
+    → let t = turn c in
+    FoundIs (modelOf (w t)) (t .before .loop .floor) (entry t) (c .find-pair .result)
 found c =
-    let w = start c .args .t1 in
-    c .find-pair .ensures (modelOf w) (members-held w (omega (arith, count-members w, start c .pre .0 .sized .ids, start c .pre .1 .members .fit))) (voters-held w)
+    let t = turn c in
+    c .find-pair .ensures (modelOf (w t)) (members-held (w t) (ids-long (w t) (start t .pre .0))) (voters-held (w t))
 
 -- what the entries from this one on come to
-left : (c : tie.After-find-pair Inv-loop μ-loop)
-    → let a = start c .args in let t = turn c .loop in
-    checkFrom (modelOf (a .t1)) (t .floor) (t .sum) (entry c ∷ entries (a .count - (t .i + 1)) (drop (7 + 6 * (t .i + 1)) (a .list .now)))
-    ≡ checkFrom (modelOf (a .t1)) 0 0 (entries (a .count) (drop 7 (a .list .now)))
+left : (c : tie.In-loop Inv-loop μ-loop)
+    → let a = start c .args in let l = c .before .loop in
+    checkFrom (modelOf (w c)) (l .floor) (l .sum)
+    (entry c ∷ entries (a .count - (l .i + 1)) (drop (7 + 6 * (l .i + 1)) (a .list .now)))
+    ≡ checkFrom (modelOf (w c)) 0 0 (entries (a .count) (drop 7 (a .list .now)))
 left c =
     let a = start c .args in
-    let t = turn c .loop in
-    next-entry (modelOf (a .t1)) (t .floor) (t .sum) (a .count) (t .i) (a .list .now) (c .before .before .before .before .before .before .loop-test .taken) (t .inv .3)
+    let l = c .before .loop in
+    next-entry (modelOf (w c)) (l .floor) (l .sum) (a .count) (l .i) (a .list .now) (c .loop-test .taken) (l .inv .3)
 
 -- the pair, in its arm
 pair : (c : tie.After-member Inv-loop μ-loop)
-    → let f = c .before .before in let g = c .member .given .0 in
-    PairFound (modelOf (start f .args .t1)) (turn f .loop .floor) (entry f) (g .0) (g .1 .0) (g .1 .1 .0) (g .1 .1 .1 .0)
+    → let t = turn (looked-up c) in let g = c .member .given .0 in
+    PairFound (modelOf (w t)) (t .before .loop .floor) (entry t) (g .0) (g .1 .0) (g .1 .1 .0) (g .1 .1 .1 .0)
 pair c =
-    let f = c .before .before in
-    subst (FoundIs (modelOf (start f .args .t1)) (turn f .loop .floor) (entry f)) (c .member .given .1) (found f)
+    let t = turn (looked-up c) in
+    subst (FoundIs (modelOf (w t)) (t .before .loop .floor) (entry t)) (c .member .given .1) (found (looked-up c))
 
 -- where its places stand in the arrays
-read : (c : tie.After-member Inv-loop μ-loop) → let g = c .member .given .0 in Inside (start (c .before .before) .args .t1) (g .0) (g .1 .1 .0) (g .1 .1 .1 .0)
-read c = inside _ (start (c .before .before) .pre .1) (pair c)
+read : (c : tie.After-member Inv-loop μ-loop)
+    → let g = c .member .given .0 in
+    Inside (w (turn (looked-up c))) (g .0) (g .1 .1 .0) (g .1 .1 .1 .0)
+read c = inside _ (start (turn (looked-up c)) .pre .0) (pair c)
 
 loop-holds : tie.Need-loop-holds Inv-loop μ-loop
 loop-holds c = (omega arith, omega arith, omega arith, simp sub-zero)
@@ -79,9 +98,9 @@ add-find-pair c = search needs
 
 find-pair-requires : tie.Need-find-pair-requires Inv-loop μ-loop
 find-pair-requires c κs =
-    let s = c .before .before .before .before .before .before .before .before in
-    let w = s .args .t1 in
-    omega (arith, count-members w, count-votes w, s .pre .1 .members .fit, s .pre .1 .votes-fit, s .pre .0 .sized .ids, s .pre .0 .sized .voters)
+    let t = c .before .before .before .before .before in
+    let sound = start t .pre .0 in
+    omega (arith, ids-long (w t) sound, voters-long (w t) sound)
 
 enum-known-r : tie.Need-enum-known-r Inv-loop μ-loop
 enum-known-r c = search needs
@@ -89,7 +108,9 @@ enum-known-r c = search needs
 returns : tie.Need-returns Inv-loop μ-loop
 returns c =
     let f = c .before .before .before in
-    sym (subst (FoundIs (modelOf (start f .args .t1)) (turn f .loop .floor) (entry f)) (c .before .r .given .1) (found f) _ _) ∙ left f
+    let t = turn f in
+    sym (subst (FoundIs (modelOf (w t)) (t .before .loop .floor) (entry t)) (c .before .r .given .1) (found f) _ _)
+    ∙ left t
 
 enum-known-member : tie.Need-enum-known-member Inv-loop μ-loop
 enum-known-member c = search needs
@@ -160,21 +181,22 @@ breaks-requires c κs = search needs
 returns-2 : tie.Need-returns-2 Inv-loop μ-loop
 unfolding row
 returns-2 c =
-    let k = c .before .before .before .before .before .before .before in
-    let f = k .before .before in
-    sym (last-row _ (start f .pre .1) (pair k) _ _ (sym (c .before .breaks .ensures) ∙ not-true _ (c .if1 .taken))) ∙ left f
+    let k = told (c .before) .before in
+    let t = turn (looked-up k) in
+    let clear = sym (c .before .breaks .ensures) ∙ not-true _ (c .if1 .taken) in
+    sym (last-row _ (start t .pre .0) (pair k) _ _ clear) ∙ left t
 
 mul-sum : tie.Need-mul-sum Inv-loop μ-loop
-mul-sum c = omega (arith, read (c .before .before .before .before .before .before .before) .bond)
+mul-sum c = omega (arith, read (told (c .before) .before) .bond)
 
 element-copy-out-sum : tie.Need-element-copy-out-sum Inv-loop μ-loop
-element-copy-out-sum c = read (c .before .before .before .before .before .before .before) .bond
+element-copy-out-sum c = read (told (c .before) .before) .bond
 
 add-sum : tie.Need-add-sum Inv-loop μ-loop
 add-sum c =
-    let k = c .before .before .before .before .before .before .before .before in
-    let f = k .before .before in
-    omega (arith, bond-small _ (start f .pre .1) (pair k), turn f .loop .inv)
+    let k = told (c .before .before) .before in
+    let t = turn (looked-up k) in
+    omega (arith, bond-small _ (start t .pre .0) (pair k), t .before .loop .inv)
 
 cast-floor : tie.Need-cast-floor Inv-loop μ-loop
 cast-floor c = search needs
@@ -191,20 +213,23 @@ loop-less c = search needs
 loop-again : tie.Need-loop-again Inv-loop μ-loop
 unfolding row
 loop-again c =
-    let k = c .before .before .before .before .before .before .before .before in
-    let f = k .before .before in
+    let broken = c .before .before in
+    let k = told broken .before in
+    let t = turn (looked-up k) in
     let p = pair k in
-    let small = bond-small _ (start f .pre .1) p in (
-      omega (arith, f .before .before .before .before .before .before .loop-test .taken),
-      omega (arith, c .before .before .before .before .before .before .before .known-told2 .given),
-      omega (arith, p .rising, turn f .loop .inv .2),
-      sym (last-row _ (start f .pre .1) p _ _ (sym (c .before .before .breaks .ensures) ∙ not-false _ (c .before .if1 .left))) ∙ left f,
+    let small = bond-small _ (start t .pre .0) p in
+    let breaks = sym (broken .breaks .ensures) ∙ not-false _ (c .before .if1 .left) in (
+      omega (arith, t .loop-test .taken),
+      omega (arith, told broken .known-told2 .given),
+      omega (arith, p .rising, t .before .loop .inv .2),
+      sym (last-row _ (start t .pre .0) p _ _ breaks) ∙ left t,
     )
 
 returns-3 : tie.Need-returns-3 Inv-loop μ-loop
 returns-3 c =
     let a = c .before .before .before .args in
-    sym (entries-none (modelOf (a .t1)) _ _ (a .count) (c .before .loop .i) _ (c .loop-test .left)) ∙ c .before .loop .inv .3
+    sym (entries-none (modelOf (a .t1)) _ _ (a .count) (c .before .loop .i) _ (c .loop-test .left))
+    ∙ c .before .loop .inv .3
 
 pub check-entries-spec : {M : Type 1} → statement M
 check-entries-spec =

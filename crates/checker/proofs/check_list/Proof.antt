@@ -5,9 +5,14 @@ use Rattle.entry.specs.Entry.{HeaderRight, HeaderIs}
 use Rattle.checker.proofs.check_list.Statement.{statement}
 use Rattle.checker.proofs.check_list.Tie as tie
 
+abbrev start : tie.After-header-of → tie.Start
+start c = c .before .before
+
 -- what the header says, in the arm of a right one
-right : (c : tie.After-count) → HeaderRight (c .before .before .before .before .args .list .now) (c .count .given .0 .0)
-right c = subst (HeaderIs (c .before .before .before .before .args .list .now)) (c .count .given .1) (c .before .before .header-of .ensures)
+right : (c : tie.After-count) → HeaderRight (start (c .before .before) .args .list .now) (c .count .given .0 .0)
+right c =
+    let h = c .before .before in
+    subst (HeaderIs (start h .args .list .now)) (c .count .given .1) (h .header-of .ensures)
 
 header-of-requires : tie.Need-header-of-requires
 header-of-requires c κs = search needs
@@ -19,10 +24,12 @@ enum-known-count : tie.Need-enum-known-count
 enum-known-count c = search needs
 
 check-entries-requires : tie.Need-check-entries-requires
-check-entries-requires c κs = (c .before .before .before .before .before .pre .0, c .before .before .before .before .before .pre .1, right (c .before) .exact)
+check-entries-requires c κs = (start (c .before .before .before) .pre, right (c .before) .exact)
 
 returns : tie.Need-returns
-returns c = sym (subst (HeaderIs (c .before .before .before .before .before .args .list .now)) (c .before .r .given .1) (c .before .before .before .header-of .ensures) _)
+returns c =
+    let h = c .before .before .before in
+    sym (subst (HeaderIs (start h .args .list .now)) (c .before .r .given .1) (h .header-of .ensures) _)
 
 returns-2 : tie.Need-returns-2
 returns-2 c = c .check-entries .ensures ∙ sym (right (c .before .before) .rest _)

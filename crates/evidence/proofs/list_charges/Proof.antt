@@ -2,14 +2,16 @@
 use native.Mathlib.Omega.{arith}
 use borrow.Author.Needs.{needs}
 use lib.ListN.{take}
-use Rattle.conduct.proofs.Members.{members-fit}
+use Rattle.model.proofs.Lists.{all-map}
+use Rattle.state.proofs.Sound.{few-members, ids-long}
 use Rattle.evidence.proofs.Listing.{listed-charges}
-use Rattle.conduct.proofs.Sorting.{all-wider}
 use Rattle.evidence.proofs.list_charges.Statement.{statement}
 use Rattle.evidence.proofs.list_charges.Tie as tie
 
 order-requires : tie.Need-order-requires
-order-requires c κs = let s = c .before .before .before in (members-fit (s .args .t1) (s .pre .1), omega (arith, members-fit (s .args .t1) (s .pre .1), s .pre .0 .sized .ids))
+order-requires c κs =
+    let s = c .before .before .before in
+    (few-members (s .args .t1) (s .pre), ids-long (s .args .t1) (s .pre))
 
 conducts-requires : tie.Need-conducts-requires
 conducts-requires c κs = search needs
@@ -18,8 +20,9 @@ collect-requires : tie.Need-collect-requires
 collect-requires c κs =
     let sorted = c .before .before .before .before in
     let s = sorted .before .before .before .before in
-    let few = members-fit (s .args .t1) (s .pre .1) in
-    (few, all-wider (λ p h. (omega (arith, s .pre .0 .sized .ids), omega arith)) (sorted .order .ensures .held))
+    let few = few-members (s .args .t1) (s .pre) in
+    let long = ids-long (s .args .t1) (s .pre) in
+    (few, all-map (λ p h. (omega arith, omega arith)) (sorted .order .ensures .held))
 
 returns : tie.Need-returns
 returns c =
@@ -27,8 +30,9 @@ returns c =
     let sorted = found .before in
     let s = sorted .before .before .before .before in
     let w = s .args .t1 in (
-      omega (arith, c .collect .ensures .0, members-fit w (s .pre .1)),
-      listed-charges w (found .conducts .result) (take (w .«member_count») (sorted .order .result)) (sorted .order .ensures) (found .conducts .ensures) (c .collect .ensures .1),
+      omega (arith, c .collect .ensures .0, few-members w (s .pre)),
+      listed-charges w (found .conducts .result) (take (w .«member_count») (sorted .order .result))
+          (sorted .order .ensures) (found .conducts .ensures) (c .collect .ensures .1),
     )
 
 pub list-charges-spec : {M : Type 1} → statement M

@@ -1,5 +1,4 @@
 -- `ffi::ffw_sound` meets its contract: it is row 40's test. Assumes nothing.
-use Rattle.witness.specs.Calls.{sound?}
 use borrow.Author.Needs.{needs}
 use Rattle.ffi.proofs.ffw_sound.Statement.{statement}
 use Rattle.ffi.proofs.ffw_sound.Tie as tie
@@ -8,7 +7,6 @@ is-sound-requires : tie.Need-is-sound-requires
 is-sound-requires c κs = search needs
 
 returns : tie.Need-returns
-unfolding sound?
 returns c = c .is-sound .ensures .0
 
 pub ffw-sound-spec : {M : Type 1} → statement M

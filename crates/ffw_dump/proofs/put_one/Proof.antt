@@ -27,7 +27,8 @@ record-size-requires c κs = search needs
 
 add-t11 : tie.Need-add-t11
 add-t11 c =
-    let start = c .before .before .before .before .before .before .before .before .before in
+    let line = c .before .before .before .before in
+    let start = line .before .before .before .before .before in
     record { fits = omega (arith, c .before .record-size .ensures, whole-size (start .args .bytes .now) (start .pre .0 .0) .1, start .pre .0 .1) }
 
 wrapping-add-u64-requires : tie.Need-wrapping-add-u64-requires

@@ -2,20 +2,20 @@
 use native.Mathlib.Omega.{arith}
 use mathlib.Core.Path.{ap}
 use borrow.Author.Needs.{needs}
-use Rattle.model.specs.Log.{recordSize}
+use Rattle.model.specs.Log.{kindOf, sizeOf, recordSize}
 use Rattle.ffw_dump.proofs.put_record.Statement.{statement}
 use Rattle.ffw_dump.proofs.put_record.Tie as tie
 
 put-member-requires : tie.Need-put-member-requires
-unfolding recordSize
+unfolding recordSize sizeOf kindOf
 put-member-requires c κs = let start = c .before .before .before .before in (omega (arith, ap recordSize (c .before .match .keys1), start .pre .0), start .pre .1)
 
 put-checkpoint-requires : tie.Need-put-checkpoint-requires
-unfolding recordSize
+unfolding recordSize sizeOf kindOf
 put-checkpoint-requires c κs = let start = c .before .before .before .before in (omega (arith, ap recordSize (c .before .match .keys2), start .pre .0), start .pre .1)
 
 put-vote-requires : tie.Need-put-vote-requires
-unfolding recordSize
+unfolding recordSize sizeOf kindOf
 put-vote-requires c κs = let start = c .before .before .before .before in (omega (arith, ap recordSize (c .before .match .keys3), start .pre .0), start .pre .1)
 
 slice-aggregate-put-field : tie.Need-slice-aggregate-put-field

@@ -2,8 +2,8 @@
 use native.Mathlib.Omega.{arith}
 use borrow.Author.Needs.{needs}
 use Rattle.state.specs.State.{modelOf}
-use Rattle.state.proofs.Kept.{count-checkpoints}
-use Rattle.tally.proofs.Backed.{few-places}
+use Rattle.state.proofs.Entries.{count-checkpoints}
+use Rattle.state.proofs.Sound.{few-checkpoints}
 use Rattle.finality.proofs.status.Statement.{statement}
 use Rattle.finality.proofs.status.Tie as tie
 
@@ -11,12 +11,13 @@ statuses-requires : tie.Need-statuses-requires
 statuses-requires c κs = search needs
 
 status-of-requires : tie.Need-status-of-requires
-status-of-requires c κs = omega (arith, few-places (c .before .args .w) (c .before .pre .0 .typed) (c .before .pre .0 .good))
+status-of-requires c κs = omega (arith, few-checkpoints (c .before .args .w) (c .before .pre .0))
 
 returns : tie.Need-returns
 returns c =
     let start = c .before .before in
-    c .status-of .ensures (modelOf (start .args .w)) (c .before .statuses .ensures) (omega (arith, start .pre .1, count-checkpoints (start .args .w)))
+    let w = start .args .w in
+    c .status-of .ensures (modelOf w) (c .before .statuses .ensures) (omega (arith, start .pre .1, count-checkpoints w))
 
 pub status-spec : {M : Type 1} → statement M
 status-spec = tie.close (tie.spec statuses-requires status-of-requires returns)

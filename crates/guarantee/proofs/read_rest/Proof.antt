@@ -11,7 +11,7 @@ use lib.Dec.{ltb}
 use lib.ListN.{length, take, drop, length-append, length-drop}
 use lib.Seq.{length-take-le}
 use Rattle.model.specs.Answer.{answer}
-use Rattle.model.specs.Run.{nothingLeft}
+use Rattle.model.specs.Change.{nothingLeft}
 use Rattle.model.proofs.Lists.{and-left, and-right, lt-or-ge}
 use Rattle.state.specs.Reading.{outcomeOf}
 use Rattle.reader.specs.Many.{readMany, IsBatch}
@@ -54,7 +54,7 @@ call c =
 loop-holds : tie.Need-loop-holds Inv-loop μ-loop
 loop-holds c =
     let a = c .before .args in
-    (none-read (a .limit) (a .log .now) (answer nothingLeft) (a .w) (a .from) (record { typed = c .before .pre .0; good = c .before .pre .1 }), refl)
+    (none-read (a .limit) (a .log .now) (answer nothingLeft) (a .w) (a .from) (c .before .pre), refl)
 
 sub-batch : tie.Need-sub-batch Inv-loop μ-loop
 sub-batch c = search needs
@@ -69,7 +69,7 @@ slice-aggregate-read-from : tie.Need-slice-aggregate-read-from Inv-loop μ-loop
 slice-aggregate-read-from c = sym (length-take-le _ _ (omega (arith, c .before .batch .ensures .1, c .before .before .before .loop .inv .1)))
 
 read-from-requires : tie.Need-read-from-requires Inv-loop μ-loop
-read-from-requires c κs = let sound = c .before .before .before .loop .inv .0 .sound in (sound .typed, sound .good)
+read-from-requires c κs = c .before .before .before .loop .inv .0 .sound
 
 add-records : tie.Need-add-records Inv-loop μ-loop
 add-records c = let r = c .before .before in omega (arith, few-read (call r), call r .few, r .before .before .before .before .before .before .fits .limit)

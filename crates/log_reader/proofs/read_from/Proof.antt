@@ -46,6 +46,7 @@ use denote.Triple.Table.{entered, cited}
 use denote.Triple.Walked.{says, needs, Stays, stay-none, stay-none-slice, gave-slice, walkOf, goes-none, goes-none-slice, goes-gave-slice, Walks, ends-at, walked, walk-meets}
 use denote.Exit.{yes}
 use denote.Triple.Clauses.{ensured, lasts}
+use Rattle.state.specs.Sound.{Sound}
 use Rattle.state.specs.declared.Witness.{Witness}
 use Rattle.state.proofs.Witness as S
 use Rattle.state.proofs.Witness.Laws as S′
@@ -53,7 +54,7 @@ use Rattle.reader.specs.declared.Batch.{Batch}
 use Rattle.reader.proofs.Batch as R
 use Rattle.reader.proofs.Batch.Laws as R′
 use Rattle.log_reader.specs.declared.LogReader.{LogReader}
-use Rattle.log_reader.proofs.Walks.{Asked, Found, α, B}
+use Rattle.log_reader.proofs.Walks.{Found, α, B}
 use Rattle.log_reader.proofs.LogReader as T
 use Rattle.log_reader.proofs.LogReader.Laws as T′
 use Rattle.log_reader.proofs.new as new
@@ -100,7 +101,7 @@ module _ {M : Type 1} (𝓤 : URA M) (H : Heap 𝓤) (A : Atoms 𝓤) (W : Given
       qed W (‵ (mem (B κ) .lies h l 0) ∷ []) ∵ fpick ! (λ vs. fsplit ! $ spelt ! (B κ) (Is (B κ)) (shows 𝓤 H A (B κ)) (LL.vals (T.the-type (α κ)) (T′.the-laws (α κ))) (LL.tells (T.the-type (α κ)) (T′.the-laws (α κ))) fullShare h vs l 0 $
       use1 W (‵ (fat fullShare (T′.mir erased) l 0 (T′.lowered h))) (W .laws .raw-at fullShare (T′.mir erased) l 0 (T′.lowered h)) $ keep ! (0 ∷ []) $ done !)
 
-module _ {M : Type 1} (𝓤 : URA M) (H : Heap 𝓤) (A : Atoms 𝓤) (W : Given 𝓤 H A) (at-mem : Memory → SProp 𝓤) (run : Routine → Fun 𝓤) (κ κ′ : Lft) (q q′ : Share) (w : Witness) (mw : Val) (s : RefT (List ℕ)) (n : ℕ) (ok : n < 2 ^ 64) (rows : RefT (List ℕ)) (sound : Asked w) where
+module _ {M : Type 1} (𝓤 : URA M) (H : Heap 𝓤) (A : Atoms 𝓤) (W : Given 𝓤 H A) (at-mem : Memory → SProp 𝓤) (run : Routine → Fun 𝓤) (κ κ′ : Lft) (q q′ : Share) (w : Witness) (mw : Val) (s : RefT (List ℕ)) (n : ℕ) (ok : n < 2 ^ 64) (rows : RefT (List ℕ)) (sound : Sound w) where
   -- the machine values of the log and of the rows
   abbrev v : Val
   v = sliceVal (s .ptr) (length (s .now))
@@ -259,7 +260,7 @@ module _ {M : Type 1} (𝓤 : URA M) (H : Heap 𝓤) (A : Atoms 𝓤) (W : Given
   read-from-walks C Λ fm known-new known-on = walked 𝓤 H A read-from.ended stayed (read-from.clauses 𝓤 H A mem run) (WpFn 𝓤 H C Λ code.function)
       (λ κs. (LL.vals S.the-type S′.the-laws, (slice-vals, (uint-vals w64, (slice-vals, tt)))))
       (λ κs. (LL.tells S.the-type S′.the-laws, (shr-slice-tells (named 0) (κs .0) u8, (uint-tells w64, (mut-slice-tells (named 1) (κs .1 .0) u8, tt)))))
-      (λ κs qs bounds a g are. needs 𝓤 (Asked (a .0)) _ (λ sound.
+      (λ κs qs bounds a g are. needs 𝓤 (Sound (a .0)) _ (λ sound.
       walk 𝓤 H A W mem run (κs .0) (κs .1 .0) (qs .0) (qs .1 .0) (a .0) (LL.val S.the-type S′.the-laws (a .0)) (a .1 .0) (a .1 .1 .0) (are .1 .1 .0 .1) (a .1 .1 .1 .0) sound C Λ fm known-new known-on
       (LL.lawful S.the-type S′.the-laws 𝓤 H A W .typed (a .0) _ (are .0) .0) (are .1 .0) (are .1 .1 .1 .0 .0 .1)))
 

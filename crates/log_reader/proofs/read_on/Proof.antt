@@ -46,6 +46,7 @@ use denote.Triple.Table.{entered, cited}
 use denote.Triple.Walked.{says, needs, Stays, stay-ref, stay-none, gave-slice, walkOf, goes-ref, goes-none, goes-gave-slice, Walks, ends-at, walked, walk-meets}
 use denote.Exit.{yes}
 use denote.Triple.Clauses.{ensured, lasts}
+use Rattle.state.specs.Sound.{Sound}
 use Rattle.state.specs.declared.Witness.{Witness}
 use Rattle.state.proofs.Witness as S
 use Rattle.state.proofs.Witness.Laws as S′
@@ -57,7 +58,7 @@ use Rattle.reader.proofs.read_many.Symbol as read-def
 use Rattle.reader.proofs.read_many.Symbol.{name as #reader·read-many}
 use Rattle.reader.proofs.read_many.Met as read-thm
 use Rattle.log_reader.specs.declared.LogReader.{LogReader}
-use Rattle.log_reader.proofs.Walks.{Asked, Found, α, B}
+use Rattle.log_reader.proofs.Walks.{Found, α, B}
 use Rattle.log_reader.proofs.LogReader as T
 use Rattle.log_reader.proofs.LogReader.Laws as T′
 use Rattle.log_reader.proofs.read_on.Key.{name as #log-reader·read-on}
@@ -77,7 +78,7 @@ module _ {M : Type 1} (𝓤 : URA M) (H : Heap 𝓤) (A : Atoms 𝓤) (at-mem : 
   abbrev Read : Contract 𝓤
   Read = tripleOf 𝓤 H A read.signature (read.spec 𝓤 H A at-mem run)
 
-module _ {M : Type 1} (𝓤 : URA M) (H : Heap 𝓤) (A : Atoms 𝓤) (W : Given 𝓤 H A) (at-mem : Memory → SProp 𝓤) (run : Routine → Fun 𝓤) (κ κ′ κ″ : Lft) (q q′ q″ : Share) (bounds : AllOutlive 3 (read-on.signature .outlives) (κ, (κ′, (κ″, tt)))) (b o : ℕ) (γ : GName) (h : LogReader) (w : Witness) (mw : Val) (rows : RefT (List ℕ)) (sound : Asked w) where
+module _ {M : Type 1} (𝓤 : URA M) (H : Heap 𝓤) (A : Atoms 𝓤) (W : Given 𝓤 H A) (at-mem : Memory → SProp 𝓤) (run : Routine → Fun 𝓤) (κ κ′ κ″ : Lft) (q q′ q″ : Share) (bounds : AllOutlive 3 (read-on.signature .outlives) (κ, (κ′, (κ″, tt)))) (b o : ℕ) (γ : GName) (h : LogReader) (w : Witness) (mw : Val) (rows : RefT (List ℕ)) (sound : Sound w) where
   -- the rows lent, and the machine values of them and of the log
   abbrev ys : List ℕ
   ys = now rows
@@ -223,7 +224,7 @@ module _ {M : Type 1} (𝓤 : URA M) (H : Heap 𝓤) (A : Atoms 𝓤) (W : Given
   read-on-walks C Λ fm known = walked 𝓤 H A read-on.ended stayed (read-on.clauses 𝓤 H A mem run) (WpFn 𝓤 H C Λ code.function)
       (λ κs. (ptr-vals, (LL.vals S.the-type S′.the-laws, (slice-vals, tt))))
       (λ κs. (mut-tells (named 0) (κs .0) (B (κs .1 .0)), (LL.tells S.the-type S′.the-laws, (mut-slice-tells (named 2) (κs .1 .1 .0) u8, tt))))
-      (λ κs qs bounds a g are. needs 𝓤 (Asked (a .1 .0)) _ (λ sound.
+      (λ κs qs bounds a g are. needs 𝓤 (Sound (a .1 .0)) _ (λ sound.
       walk 𝓤 H A W mem run (κs .0) (κs .1 .0) (κs .1 .1 .0) (qs .0) (qs .1 .0) (qs .1 .1 .0) bounds (a .0 .ptr .0) (a .0 .ptr .1) (a .0 .name) (a .0 .now) (a .1 .0) (LL.val S.the-type S′.the-laws (a .1 .0)) (a .1 .1 .0) sound C Λ fm known
       (LL.lawful S.the-type S′.the-laws 𝓤 H A W .typed (a .1 .0) _ (are .1 .0) .0) (are .1 .1 .0 .0 .1)))
 

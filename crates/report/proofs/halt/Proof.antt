@@ -33,9 +33,8 @@ returns c =
     let then = stopped .before .before in
     let o = then .before .before .before in
     let a = o .before .before .before .args in
-    λ d e.
     paused-fed (a .w) (a .k) (a .next) (a .at) _ (a .buf .now) _ Ended
-    (halted-ends (a .w) (a .k) d _ (sym (ap outcomeOf (o .o .given .1)) ∙ e) (sym (then .before .refusal-number .ensures) ∙ then .if1 .taken))
+    (halted-ends (a .w) (a .k) _ (ap outcomeOf (o .o .given .1)) (sym (then .before .refusal-number .ensures) ∙ then .if1 .taken))
     (stopped .stopped-line .ensures .0)
 
 returns-2 : tie.Need-returns-2
@@ -43,25 +42,22 @@ returns-2 c =
     let o = c .before .before .before in
     let start = o .before .before .before in
     let a = start .args in
-    λ d e.
     paused-fed (a .w) (a .k) (a .next) (a .at) _ (a .buf .now) _ Wants
-    (halted-waits (a .w) (a .k) d _ (sym (ap outcomeOf (o .o .given .1)) ∙ e) (λ four. c .if1 .left (c .before .refusal-number .ensures ∙ four)))
+    (halted-waits (a .w) (a .k) _ (ap outcomeOf (o .o .given .1)) (λ four. c .if1 .left (c .before .refusal-number .ensures ∙ four)))
     (none (a .buf .now) (a .at) (omega (arith, start .pre)))
 
 returns-3 : tie.Need-returns-3
 returns-3 c =
     let start = c .before .before .before in
     let a = start .args in
-    λ d e.
-    paused-fed (a .w) (a .k) (a .next) (a .at) _ (a .buf .now) _ Wants (halted-none (a .w) (a .k) d (sym (ap outcomeOf (c .enum-told .given .1)) ∙ e))
+    paused-fed (a .w) (a .k) (a .next) (a .at) _ (a .buf .now) _ Wants (halted-none (a .w) (a .k) (ap outcomeOf (c .enum-told .given .1)))
     (none (a .buf .now) (a .at) (omega (arith, start .pre)))
 
 returns-4 : tie.Need-returns-4
 returns-4 c =
     let start = c .before .before .before in
     let a = start .args in
-    λ d e.
-    paused-fed (a .w) (a .k) (a .next) (a .at) _ (a .buf .now) _ Wants (halted-none (a .w) (a .k) d (sym (ap outcomeOf (c .enum-told2 .given .1)) ∙ e))
+    paused-fed (a .w) (a .k) (a .next) (a .at) _ (a .buf .now) _ Wants (halted-none (a .w) (a .k) (ap outcomeOf (c .enum-told2 .given .1)))
     (none (a .buf .now) (a .at) (omega (arith, start .pre)))
 
 pub halt-spec : {M : Type 1} → statement M

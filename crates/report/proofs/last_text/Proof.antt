@@ -7,7 +7,7 @@ use Rattle.report.proofs.last_text.Statement.{statement}
 use Rattle.report.proofs.last_text.Tie as tie
 
 summary-requires : tie.Need-summary-requires
-summary-requires c κs = let p = c .before .before .before .pre in (record { typed = p .0; good = p .1 }, p .2)
+summary-requires c κs = search needs
 
 same-length : tie.Need-same-length
 same-length c = search needs

@@ -8,7 +8,7 @@ use lib.ListN.{length, take, drop, length-append, take-append-drop}
 use lib.Seq.{length-take-le}
 use borrow.Author.Needs.{needs}
 use Rattle.model.specs.Answer.{answer}
-use Rattle.model.specs.Run.{nothingLeft}
+use Rattle.model.specs.Change.{nothingLeft}
 use Rattle.text.proofs.Putting.{kept}
 use Rattle.report.specs.Feed.{feedFrom, lastNumber}
 use Rattle.report.proofs.Onward.{Sofar, none-yet, end-inside, room-and-number, spent-here, May, few-records, rows-long, batch-here, room-left, halted-last}
@@ -26,7 +26,7 @@ loop-holds : tie.Need-loop-holds Inv-loop μ-loop
 loop-holds c =
     let start = c .before .before in
     let a = start .args in
-    (refl, none-yet (a .w) (a .records) (a .log .now) (a .at) (a .buf .now) (record { typed = start .pre .0; good = start .pre .1 }) (omega arith))
+    (refl, none-yet (a .w) (a .records) (a .log .now) (a .at) (a .buf .now) (start .pre) (omega arith))
 
 sub-loop : tie.Need-sub-loop Inv-loop μ-loop
 sub-loop c = end-inside (c .loop .inv .1)
@@ -44,6 +44,10 @@ array-borrow-prefix-rows : tie.Need-array-borrow-prefix-rows Inv-loop μ-loop
 array-borrow-prefix-rows c = omega (arith, c .batch .ensures .1, c .before .before .loop .inv .0)
 
 -- ---- the batch that was read
+
+-- the reading whose rows became these lines
+abbrev read : tie.After-refused-lines Inv-loop μ-loop → tie.After-read-from Inv-loop μ-loop
+read c = c .before .before .before .before .before
 
 abbrev test : tie.After-rows Inv-loop μ-loop → tie.In-loop Inv-loop μ-loop
 test c = c .before .before
@@ -70,7 +74,7 @@ slice-aggregate-read-from : tie.Need-slice-aggregate-read-from Inv-loop μ-loop
 slice-aggregate-read-from c = sym (lent-long c)
 
 read-from-requires : tie.Need-read-from-requires Inv-loop μ-loop
-read-from-requires c κs = let sound = test c .before .loop .inv .1 .sound in (sound .typed, sound .good)
+read-from-requires c κs = test c .before .loop .inv .1 .sound
 
 few : (c : tie.After-read-from Inv-loop μ-loop) → c .read-from .result .records ≤ c .before .before .batch .result
 few c = omega (arith, few-records (test (c .before) .before .loop .inv .1) (may (c .before)) (c .read-from .ensures), lent-long (c .before))
@@ -101,7 +105,7 @@ refused-lines-requires c κs =
 
 add-k : tie.Need-add-k Inv-loop μ-loop
 add-k c =
-    let r = c .before .before .before .before .before .before .before in
+    let r = read (c .before .before) in
     let q = r .before in
     omega (arith, few r, lent-long q, may q .numbers, test q .before .loop .inv .1 .numbered)
 
@@ -112,7 +116,7 @@ halt-requires : tie.Need-halt-requires Inv-loop μ-loop
 halt-requires c κs =
     let then = c .before .before in
     let l = then .before .before .before in
-    let r = l .before .before .before .before .before in
+    let r = read l in
     let q = r .before in
     let so = test q .before .loop .inv .1 in
     let room = room-left so (may q) (r .read-from .ensures) (others q) (l .refused-lines .ensures .0) (omega (arith, then .if1 .taken, lent-long q)) in
@@ -124,7 +128,7 @@ returns c =
     let e = h .before .before in
     let then = e .before in
     let l = then .before .before .before in
-    let r = l .before .before .before .before .before in
+    let r = read l in
     let q = r .before in
     halted-last (test q .before .loop .inv .1) (may q) (r .read-from .ensures) (others q) (l .refused-lines .ensures .0) (omega (arith, then .if1 .taken, lent-long q))
     (e .ended-by .result) (answer nothingLeft) (e .ended-by .ensures) (h .halt .ensures)
@@ -134,14 +138,14 @@ same-length c = kept (returns c .text)
 
 loop-less : tie.Need-loop-less Inv-loop μ-loop
 loop-less c =
-    let r = c .before .before .before .before .before .before .before .before in
+    let r = read (c .before .before .before) in
     let q = r .before in
     omega (arith, c .if1 .left, few r, q .before .batch .ensures .0, q .before .batch .ensures .3)
 
 loop-again : tie.Need-loop-again Inv-loop μ-loop
 loop-again c =
     let l = c .before .before .before in
-    let r = l .before .before .before .before .before in
+    let r = read l in
     let q = r .before in
     let so = test q .before .loop .inv .1 in
     (rows-long so (may q) (r .read-from .ensures) (others q) refl ∙ others-long q, batch-here so (may q) (r .read-from .ensures) (others q) (l .refused-lines .ensures .0))

@@ -1,144 +1,134 @@
--- `rules::decide_record` meets its contract: the kind byte chooses the record's length and its rows. Assumes nothing.
-use mathlib.Core.Path.{refl, ap}
+-- `rules::decide_record` meets its contract: row 5 by the record's size, then the rows of its kind. Assumes nothing.
+use Prim.Native.Nat.{ℕ, _-_, _<_, _≤_}
+use mathlib.Core.Path.{_≡_, sym, ap, _∙_}
+use mathlib.Core.List.{List}
 use native.Mathlib.Omega.{arith}
 use borrow.Author.Needs.{needs}
-use lib.ListN.{drop, getD}
-use Rattle.model.specs.Decide.{decideMember, decideRecord}
-use Rattle.model.specs.Log.{recordSize, decodeWhole}
-use Rattle.rules.proofs.ByKind.{size-none, nothing-left, unknown-kind, cut-record, whole-record, same-answer, by-kind}
-use Rattle.rules.proofs.Decided.{members-fixed, member-read}
+use lib.ListN.{length, drop, getD}
+use Rattle.model.specs.Decide.{decideRecord, decide}
+use Rattle.model.specs.Log.{Kind, kindOf, sizeOf, decodeAs, recordSize}
+use Rattle.model.specs.Model.{Model}
+use Rattle.model.proofs.Log.{none-at, cut-at, whole-at, other-kind}
+use Rattle.rules.proofs.Decided.{members-fixed}
 use Rattle.rules.proofs.decide_record.Statement.{statement}
 use Rattle.rules.proofs.decide_record.Tie as tie
 
+abbrev lent : tie.After-shared-slice-known6 → tie.Start
+lent c = c .before .before .before .before .before .before
+
+abbrev start : tie.Else1 → tie.Start
+start c = lent (c .before)
+
+abbrev inside : tie.Else2 → tie.Else1
+inside c = c .before .before .before
+
+abbrev log : tie.Else2 → List ℕ
+log c = start (inside c) .args .log .now
+
+abbrev at : tie.Else2 → ℕ
+at c = start (inside c) .args .at
+
+abbrev kind : tie.Else2 → ℕ
+kind c = getD (log c) (at c) 0
+
+-- the record is whole
+fits : (c : tie.Else2) → recordSize (kind c) ≤ length (log c) - at c
+fits c = omega (arith, c .before .record-size .ensures, c .if2 .left)
+
+-- so its kind decides
+by-kind : (c : tie.Else2) (m : Model) {k : Kind} → kindOf (kind c) ≡ k → decideRecord m (decodeAs k (drop (at c) (log c))) ≡ decide m (drop (at c) (log c))
+unfolding decide
+by-kind c m {k} e =
+    let s = drop (at c) (log c) in
+    sym (ap (decideRecord m) (whole-at (at c) (log c) (inside c .if1 .left) (fits c) .decoded ∙ ap (λ (j : Kind). decodeAs j s) e))
+
 returns : tie.Need-returns
+unfolding decide decideRecord
 returns c =
     λ m held.
-    let a = c .before .before .before .before .before .before .before .args in
-    by-kind (nothing-left m (a .at) (a .log .now) (c .if1 .taken)) (record { answer = refl; passed = refl })
+    let a = lent (c .before) .args in
+    sym (ap (decideRecord m) (none-at (a .at) (a .log .now) (c .if1 .taken) .decoded))
 
-sub-left : tie.Need-sub-left
-sub-left c = search needs
+shared-slice-read-kind : tie.Need-shared-slice-read-kind
+shared-slice-read-kind c = search needs
 
-shared-slice-read-match : tie.Need-shared-slice-read-match
-shared-slice-read-match c = search needs
+sub-if2 : tie.Need-sub-if2
+sub-if2 c = search needs
+
+record-size-requires : tie.Need-record-size-requires
+record-size-requires c κs = search needs
 
 returns-2 : tie.Need-returns-2
-unfolding recordSize
+unfolding decide decideRecord
 returns-2 c =
     λ m held.
-    let k = c .before in
-    let e = k .before .before in
-    let a = e .before .before .before .before .before .before .before .args in
-    by-kind (cut-record m (a .at) (a .log .now) (e .if1 .left) (k .match .keys1) refl (omega arith) (c .if2 .taken)) (record { answer = refl; passed = refl })
-
-add-be16 : tie.Need-add-be16
-add-be16 c = search needs
-
-be16-requires : tie.Need-be16-requires
-be16-requires c κs = search needs
-
-add-be64 : tie.Need-add-be64
-add-be64 c = search needs
-
-be64-requires : tie.Need-be64-requires
-be64-requires c κs = search needs
+    let e = c .before .before .before in
+    let a = start e .args in
+    let short : length (a .log .now) - a .at < recordSize (getD (a .log .now) (a .at) 0) = omega (arith, c .before .record-size .ensures, c .if2 .taken) in
+    sym (ap (decideRecord m) (cut-at (a .at) (a .log .now) (e .if1 .left) short .decoded))
 
 decide-member-requires : tie.Need-decide-member-requires
-decide-member-requires c κs = search needs
-
-returns-3 : tie.Need-returns-3
-unfolding recordSize
-returns-3 c =
-    λ m held.
-    let k = c .before in
-    let e = k .before .before in
-    let a = e .before .before .before .before .before .before .before .args in
-    by-kind (cut-record m (a .at) (a .log .now) (e .if1 .left) (k .match .keys2) refl (omega arith) (c .if3 .taken)) (record { answer = refl; passed = refl })
+unfolding recordSize sizeOf kindOf
+decide-member-requires c κs =
+    let e = c .before .before .before in
+    (start (inside e) .pre .ids-long, omega (arith, fits e, ap recordSize (c .before .before .match .keys1), inside e .if1 .left))
 
 decide-checkpoint-requires : tie.Need-decide-checkpoint-requires
-decide-checkpoint-requires c κs = search needs
+unfolding recordSize sizeOf kindOf
+decide-checkpoint-requires c κs =
+    let e = c .before in
+    let fit = start (inside e) .pre in
+    ((fit .names-long, fit .checkpoints-fit, omega (arith, fits e, ap recordSize (c .match .keys2), inside e .if1 .left)), fit .low)
+
+decide-vote-requires : tie.Need-decide-vote-requires
+unfolding recordSize sizeOf kindOf
+decide-vote-requires c κs =
+    let e = c .before in
+    (start (inside e) .pre, omega (arith, fits e, ap recordSize (c .match .keys3), inside e .if1 .left))
+
+returns-3 : tie.Need-returns-3
+unfolding decideRecord decodeAs kindOf
+returns-3 c =
+    λ m held.
+    let k = c .before .before .before in
+    c .decide-member .ensures m (members-fixed held) (held .members-held) ∙ by-kind (k .before) m (ap kindOf (k .match .keys1))
 
 returns-4 : tie.Need-returns-4
-unfolding recordSize
+unfolding decideRecord decodeAs kindOf
 returns-4 c =
     λ m held.
     let k = c .before in
-    let e = k .before .before in
-    let a = e .before .before .before .before .before .before .before .args in
-    by-kind (cut-record m (a .at) (a .log .now) (e .if1 .left) (k .match .keys3) refl (omega arith) (c .if4 .taken)) (record { answer = refl; passed = refl })
-
-decide-vote-requires : tie.Need-decide-vote-requires
-decide-vote-requires c κs =
-    let start = c .before .before .before .before .before .before .before .before .before .before in
-    (start .pre .0, (start .pre .1 .0, start .pre .1 .1, omega arith))
+    c .decide-checkpoint .ensures m (held .names-held) (held .heights-held) ∙ by-kind (k .before) m (ap kindOf (k .match .keys2))
 
 returns-5 : tie.Need-returns-5
-unfolding recordSize decideRecord decodeWhole
-returns-5 c =
-    λ m held.
-    let long = c .before .before .before in
-    let k = long .before in
-    let e = k .before .before in
-    let a = e .before .before .before .before .before .before .before .args in
-    by-kind (whole-record m (a .at) (a .log .now) (e .if1 .left) (k .match .keys1) refl (omega arith) (long .if2 .left))
-    (same-answer (ap (decideMember m) (member-read (a .at) (a .log .now) (c .before .before .be16 .ensures) (c .before .be64 .ensures)))
-    (c .decide-member .ensures m (drop (a .at) (a .log .now)) (members-fixed held) (held .members-held)))
+unfolding decideRecord decodeAs kindOf
+returns-5 c = λ m held. let k = c .before in c .decide-vote .ensures m held ∙ by-kind (k .before) m (ap kindOf (k .match .keys3))
 
 returns-6 : tie.Need-returns-6
-unfolding recordSize decideRecord decodeWhole
-returns-6 c =
-    λ m held.
-    let long = c .before in
-    let k = long .before in
-    let e = k .before .before in
-    let a = e .before .before .before .before .before .before .before .args in
-    by-kind (whole-record m (a .at) (a .log .now) (e .if1 .left) (k .match .keys2) refl (omega arith) (long .if3 .left)) (c .decide-checkpoint .ensures m (held .names-held) (held .heights-held))
+unfolding decideRecord decodeAs kindOf
+returns-6 c = λ m held. by-kind (c .before) m (ap kindOf (c .match .keys4))
 
 returns-7 : tie.Need-returns-7
-unfolding recordSize decideRecord decodeWhole
+unfolding decideRecord decodeAs
 returns-7 c =
     λ m held.
-    let long = c .before in
-    let k = long .before in
-    let e = k .before .before in
-    let a = e .before .before .before .before .before .before .before .args in
-    by-kind (whole-record m (a .at) (a .log .now) (e .if1 .left) (k .match .keys3) refl (omega arith) (long .if4 .left)) (c .decide-vote .ensures m held)
-
-returns-8 : tie.Need-returns-8
-unfolding recordSize
-returns-8 c =
-    λ m held.
-    let e = c .before .before in
-    let a = e .before .before .before .before .before .before .before .args in
-    by-kind (unknown-kind m (a .at) (a .log .now) (e .if1 .left) refl (ap recordSize (c .match .keys4))) (record { answer = refl; passed = refl })
-
-returns-9 : tie.Need-returns-9
-returns-9 c =
-    λ m held.
-    let e = c .before .before in
-    let a = e .before .before .before .before .before .before .before .args in
     let none = c .match .rest .0 in
-    by-kind (unknown-kind m (a .at) (a .log .now) (e .if1 .left) refl (size-none (getD (a .log .now) (a .at) 0) (none .0 .0 .1) (none .0 .1) (none .1))) (record { answer = refl; passed = refl })
+    by-kind (c .before) m (other-kind (kind (c .before)) (none .0 .0 .1) (none .0 .1) (none .1))
 
 pub decide-record-spec : {M : Type 1} → statement M
 decide-record-spec =
     tie.close
     (tie.spec
     returns
-    sub-left
-    shared-slice-read-match
+    shared-slice-read-kind
+    sub-if2
+    record-size-requires
     returns-2
-    add-be16
-    be16-requires
-    add-be64
-    be64-requires
     decide-member-requires
-    returns-3
     decide-checkpoint-requires
-    returns-4
     decide-vote-requires
+    returns-3
+    returns-4
     returns-5
     returns-6
-    returns-7
-    returns-8
-    returns-9)
+    returns-7)

@@ -1,7 +1,7 @@
 -- `rules::outcome_of` meets its contract, case by case. Assumes nothing.
 use mathlib.Core.Path.{sym, ap}
 use borrow.Author.Needs.{needs}
-use Rattle.model.specs.Run.{told}
+use Rattle.model.specs.Change.{single}
 use Rattle.rules.specs.Decision.{decisionOf}
 use Rattle.rules.specs.declared.Decision.{Decision}
 use Rattle.rules.proofs.outcome_of.Statement.{statement}
@@ -23,24 +23,24 @@ enum-told-4 : tie.Need-enum-told-4
 enum-told-4 c = search needs
 
 returns : tie.Need-returns
-unfolding told
-returns c = λ s. sym (ap (λ (d : Decision). told (decisionOf s d)) (c .enum-told .given .1))
+unfolding single
+returns c = λ s. sym (ap (λ (d : Decision). decisionOf s d .told) (c .enum-told .given .1))
 
 returns-2 : tie.Need-returns-2
-unfolding told
-returns-2 c = λ s. sym (ap (λ (d : Decision). told (decisionOf s d)) (c .before .d .given .1))
+unfolding single
+returns-2 c = λ s. sym (ap (λ (d : Decision). decisionOf s d .told) (c .before .d .given .1))
 
 returns-3 : tie.Need-returns-3
-unfolding told
-returns-3 c = λ s. sym (ap (λ (d : Decision). told (decisionOf s d)) (c .enum-told2 .given .1))
+unfolding single
+returns-3 c = λ s. sym (ap (λ (d : Decision). decisionOf s d .told) (c .enum-told2 .given .1))
 
 returns-4 : tie.Need-returns-4
-unfolding told
-returns-4 c = λ s. sym (ap (λ (d : Decision). told (decisionOf s d)) (c .enum-told3 .given .1))
+unfolding single
+returns-4 c = λ s. sym (ap (λ (d : Decision). decisionOf s d .told) (c .enum-told3 .given .1))
 
 returns-5 : tie.Need-returns-5
-unfolding told
-returns-5 c = λ s. sym (ap (λ (d : Decision). told (decisionOf s d)) (c .enum-told4 .given .1))
+unfolding single
+returns-5 c = λ s. sym (ap (λ (d : Decision). decisionOf s d .told) (c .enum-told4 .given .1))
 
 pub outcome-of-spec : {M : Type 1} → statement M
 outcome-of-spec =

@@ -2,7 +2,6 @@
 use mathlib.Core.Path.{refl}
 use mathlib.Core.Bool.{true, false}
 use borrow.Author.Needs.{needs}
-use lib.ListN.{getD}
 use Rattle.standing.proofs.Standing.{standing}
 use Rattle.standing.proofs.status_of.Statement.{statement}
 use Rattle.standing.proofs.status_of.Tie as tie
@@ -17,13 +16,13 @@ element-copy-out-if2 : tie.Need-element-copy-out-if2
 element-copy-out-if2 c = search needs
 
 returns : tie.Need-returns
-returns c = λ m is h. standing m (c .before .before .before .before .before .args .t1) is _ h true true (c .before .before .if1 .taken) (c .if2 .taken)
+returns c = λ m is h. standing m _ is _ h true true (c .before .before .if1 .taken) (c .if2 .taken)
 
 returns-2 : tie.Need-returns-2
-returns-2 c = λ m is h. standing m (c .before .before .before .before .before .args .t1) is _ h true false (c .before .before .if1 .taken) (c .if2 .left)
+returns-2 c = λ m is h. standing m _ is _ h true false (c .before .before .if1 .taken) (c .if2 .left)
 
 returns-3 : tie.Need-returns-3
-returns-3 c = λ m is h. standing m (c .before .before .before .args .t1) is _ h false (getD (c .before .before .before .args .t1 .finalizing) (c .before .before .before .args .p .0) false) (c .if1 .left) refl
+returns-3 c = λ m is h. standing m _ is _ h false _ (c .if1 .left) refl
 
 pub status-of-spec : {M : Type 1} → statement M
 status-of-spec =

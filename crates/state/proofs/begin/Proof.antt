@@ -40,10 +40,11 @@ empty-requires c κs = search needs
 returns-4 : tie.Need-returns-4
 unfolding row
 returns-4 c =
-    let a = c .before .before .before .before .before .before .before .args in
+    let e = c .before .before .before .before .before in
+    let a = e .before .before .args in
     right-beginning (a .w) (c .empty .ensures)
     (sym
-    (header-rows (a .log .now) (le-ltb _ _ (c .before .before .before .before .before .if1 .left)) (sym (c .before .before .before .before .has-mark .ensures) ∙ not-false _ (c .before .before .before .if2 .left))
+    (header-rows (a .log .now) (le-ltb _ _ (e .if1 .left)) (sym (c .before .before .before .before .has-mark .ensures) ∙ not-false _ (c .before .before .before .if2 .left))
     (ap (λ v. eqb v 1) (sym (c .before .before .be16 .ensures)) ∙ eq-eqb _ _ (c .before .if3 .left))))
 
 pub begin-spec : {M : Type 1} → statement M

@@ -14,7 +14,7 @@ returns : tie.Need-returns
 returns c = conflict-40 (c .before .before .args .w) (meets-40 _ (c .before .is-sound .ensures) (c .if1 .taken))
 
 conflict-requires : tie.Need-conflict-requires
-conflict-requires c κs = let g = (good-state _ (c .before .is-sound .ensures) (c .if1 .left)) in record { typed = g .0; good = g .1 }
+conflict-requires c κs = good-state _ (c .before .is-sound .ensures) (c .if1 .left)
 
 returns-2 : tie.Need-returns-2
 returns-2 c = ap answer (c .conflict .ensures) ∙ conflict-is (c .before .before .before .args .w) (passes-40 _ (c .before .before .is-sound .ensures) (c .before .if1 .left))

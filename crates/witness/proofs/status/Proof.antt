@@ -23,7 +23,7 @@ unfolding row
 returns-2 c = let a = c .before .before .before .before .args in status-is (a .w) (passes-40 _ (c .before .before .before .is-sound .ensures) (c .before .before .if1 .left)) (a .p .0) (le-ltb _ _ (c .if2 .taken))
 
 status-requires : tie.Need-status-requires
-status-requires c κs = let g = (good-state _ (c .before .before .before .is-sound .ensures) (c .before .before .if1 .left)) in (record { typed = g .0; good = g .1 }, c .if2 .left)
+status-requires c κs = (good-state _ (c .before .before .before .is-sound .ensures) (c .before .before .if1 .left), c .if2 .left)
 
 returns-3 : tie.Need-returns-3
 unfolding row

@@ -18,7 +18,11 @@ same-length : tie.Need-same-length
 same-length c = search needs
 
 returns-2 : tie.Need-returns-2
-returns-2 c = let a = c .before .before .before .before .before .before .before .args in list-is (a .w) (passes-40 _ (c .before .before .before .before .before .is-sound .ensures) (c .before .before .before .before .if1 .left)) (a .buf .now) (c .before .before .our-list .ensures)
+returns-2 c =
+    let written = c .before .before in
+    let e = written .before .before in
+    let a = e .before .before .before .args in
+    list-is (a .w) (passes-40 _ (e .before .is-sound .ensures) (e .if1 .left)) (a .buf .now) (written .our-list .ensures)
 
 pub write-list-spec : {M : Type 1} → statement M
 write-list-spec =

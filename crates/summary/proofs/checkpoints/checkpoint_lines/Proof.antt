@@ -4,10 +4,10 @@ use native.Mathlib.Nat.{le-antisymm}
 use native.Mathlib.Omega.{arith}
 use Rattle.model.specs.Report.{checkpointLines}
 use Rattle.state.specs.State.{modelOf}
-use Rattle.state.proofs.Kept.{count-checkpoints}
+use Rattle.state.proofs.Entries.{count-checkpoints}
 use Rattle.text.specs.Put.{Put}
 use Rattle.text.proofs.Putting.{kept}
-use Rattle.summary.proofs.Held.{places-fit}
+use Rattle.state.proofs.Sound.{few-checkpoints}
 use Rattle.summary.proofs.Lines.{checkpoints-none, checkpoints-more}
 use Rattle.summary.proofs.checkpoints.checkpoint_lines.Statement.{statement}
 use Rattle.summary.proofs.checkpoints.checkpoint_lines.Tie as tie
@@ -20,7 +20,7 @@ abbrev μ-loop : tie.MeasureT-loop
 
 -- a place is one of 512
 below : (c : tie.In-loop Inv-loop μ-loop) → c .before .loop .p < 512
-below c = omega (arith, c .loop-test .taken, places-fit (c .before .before .before .before .pre .0))
+below c = let s = c .before .before .before .before in omega (arith, c .loop-test .taken, few-checkpoints (s .args .t1) (s .pre .0))
 
 statuses-requires : tie.Need-statuses-requires Inv-loop μ-loop
 statuses-requires c κs = c .before .pre .0
@@ -38,10 +38,10 @@ mul-checkpoint-line : tie.Need-mul-checkpoint-line Inv-loop μ-loop
 mul-checkpoint-line c = omega (arith, below (c .before .before))
 
 element-copy-out-checkpoint-line : tie.Need-element-copy-out-checkpoint-line Inv-loop μ-loop
-element-copy-out-checkpoint-line c = omega (arith, below (c .before .before), c .before .before .before .before .before .before .pre .0 .typed .sized .heights)
+element-copy-out-checkpoint-line c = omega (arith, below (c .before .before), c .before .before .before .before .before .before .pre .0 .typed .tree .heights)
 
 checkpoint-line-requires : tie.Need-checkpoint-line-requires Inv-loop μ-loop
-checkpoint-line-requires c κs = omega (arith, kept (c .before .before .before .before .loop .inv .2), c .before .before .before .before .before .before .before .pre .1)
+checkpoint-line-requires c κs = let at = c .before .before .before .before in omega (arith, kept (at .loop .inv .2), at .before .before .before .pre .1)
 
 add-p : tie.Need-add-p Inv-loop μ-loop
 add-p c = omega arith

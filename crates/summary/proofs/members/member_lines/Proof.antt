@@ -9,7 +9,7 @@ use lib.ListN.{getD, length, take}
 use Rattle.conduct.proofs.Sorting.{all-first}
 use Rattle.text.specs.Put.{Put}
 use Rattle.text.proofs.Putting.{spelled, kept}
-use Rattle.summary.proofs.Held.{members-fit}
+use Rattle.state.proofs.Sound.{few-members, ids-long}
 use Rattle.summary.proofs.Lines.{members-none, members-more, members-all, lineAt}
 use Rattle.summary.proofs.members.member_lines.Statement.{statement}
 use Rattle.summary.proofs.members.member_lines.Tie as tie
@@ -23,19 +23,24 @@ abbrev μ-loop : tie.MeasureT-loop
 long : (c : tie.After-order Inv-loop μ-loop) → length (c .order .result) ≡ 128
 long c = search needs
 
+abbrev start : tie.After-order Inv-loop μ-loop → tie.Start Inv-loop μ-loop
+start c = c .before .before .before .before .before
+
+few : (c : tie.After-order Inv-loop μ-loop) → start c .args .t1 .«member_count» ≤ 128
+few c = few-members (start c .args .t1) (start c .pre .0)
+
 -- a place is a member's
-held : (c : tie.In-loop Inv-loop μ-loop) → getD (c .before .before .order .result) (c .before .loop .k) 0 < c .before .before .before .before .before .before .before .args .t1 .«member_count»
+held : (c : tie.In-loop Inv-loop μ-loop) → getD (c .before .before .order .result) (c .before .loop .k) 0 < start (c .before .before) .args .t1 .«member_count»
 held c =
     let o = c .before .before in
-    let s = o .before .before .before .before .before in
-    all-first (s .args .t1 .«member_count») (c .before .loop .k) (o .order .result) (omega (arith, long o, members-fit (s .pre .0))) (c .loop-test .taken) (o .order .ensures .held)
+    all-first (start o .args .t1 .«member_count») (c .before .loop .k) (o .order .result) (omega (arith, long o, few o)) (c .loop-test .taken) (o .order .ensures .held)
 
 -- and a member is one of 128
 below : (c : tie.In-loop Inv-loop μ-loop) → getD (c .before .before .order .result) (c .before .loop .k) 0 < 128
-below c = omega (arith, held c, members-fit (c .before .before .before .before .before .before .before .pre .0))
+below c = omega (arith, held c, few (c .before .before))
 
 order-requires : tie.Need-order-requires Inv-loop μ-loop
-order-requires c κs = let s = c .before .before .before .before in omega (arith, members-fit (s .pre .0), s .pre .0 .typed .sized .ids)
+order-requires c κs = let s = c .before .before .before .before in (few-members (s .args .t1) (s .pre .0), ids-long (s .args .t1) (s .pre .0))
 
 loop-holds : tie.Need-loop-holds Inv-loop μ-loop
 loop-holds c =
@@ -46,7 +51,7 @@ mul-p : tie.Need-mul-p Inv-loop μ-loop
 mul-p c = omega arith
 
 array-read-p : tie.Need-array-read-p Inv-loop μ-loop
-array-read-p c = omega (arith, long (c .before .before), members-fit (c .before .before .before .before .before .before .before .pre .0))
+array-read-p c = omega (arith, long (c .before .before), few (c .before .before))
 
 cast-p : tie.Need-cast-p Inv-loop μ-loop
 cast-p c = omega (arith, below c)
@@ -70,7 +75,7 @@ element-copy-out-member-line-2 : tie.Need-element-copy-out-member-line-2 Inv-loo
 element-copy-out-member-line-2 c = below (c .before .before .before)
 
 member-line-requires : tie.Need-member-line-requires Inv-loop μ-loop
-member-line-requires c κs = omega (arith, kept (c .before .before .before .before .before .loop .inv .2), c .before .before .before .before .before .before .before .before .before .before .before .pre .2)
+member-line-requires c κs = let at = c .before .before .before .before .before in omega (arith, kept (at .loop .inv .2), start (at .before) .pre .2)
 
 add-k : tie.Need-add-k Inv-loop μ-loop
 add-k c = omega arith
@@ -83,10 +88,10 @@ loop-again c =
     let called = c .before .before in
     let taken = called .before .before .before .before .before in
     let at = taken .before in
-    let s = at .before .before .before .before .before .before in (
+    let s = start (at .before) in (
       omega arith,
       omega (arith, called .member-line .ensures .1),
-      members-more (s .args .t1) (s .args .buf .now) (s .args .at) (at .loop .k) (at .before .order .result) (omega (arith, long (at .before), members-fit (s .pre .0))) (held taken) (s .pre .1 _ (held taken)) (at .loop .inv .2) (called .member-line .ensures .0),
+      members-more (s .args .t1) (s .args .buf .now) (s .args .at) (at .loop .k) (at .before .order .result) (omega (arith, long (at .before), few (at .before))) (held taken) (s .pre .1 _ (held taken)) (at .loop .inv .2) (called .member-line .ensures .0),
     )
 
 same-length : tie.Need-same-length Inv-loop μ-loop
@@ -96,7 +101,7 @@ returns : tie.Need-returns Inv-loop μ-loop
 returns c =
     let l = c .before .loop in
     let o = c .before .before in
-    let w = o .before .before .before .before .before .args .t1 in (
+    let w = start o .args .t1 in (
       spelled (l .inv .2) (ap (λ (k : ℕ). flatMap (lineAt w) (take k (o .order .result))) (le-antisymm (l .inv .0) (c .loop-test .left)) ∙ members-all w (take (w .«member_count») (o .order .result)) (o .order .ensures)),
       omega arith,
     )

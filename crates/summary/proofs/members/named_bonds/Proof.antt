@@ -5,7 +5,7 @@ use mathlib.Core.Path.{_≡_, sym, _∙_}
 use mathlib.Core.Bool.{Bool, cond}
 use mathlib.Core.Logic.{⊎-elim}
 use lib.ListN.{getD}
-use Rattle.summary.proofs.Held.{members-fit}
+use Rattle.state.proofs.Sound.{few-members}
 use Rattle.summary.proofs.Named.{Summed, summed-none, summed-more, summed-all, named-bound}
 use Rattle.summary.proofs.members.named_bonds.Statement.{statement}
 use Rattle.summary.proofs.members.named_bonds.Tie as tie
@@ -18,7 +18,7 @@ abbrev μ-loop : tie.MeasureT-loop
 
 -- a member is one of 128
 below : (c : tie.In-loop Inv-loop μ-loop) → c .before .loop .i < 128
-below c = omega (arith, c .loop-test .taken, members-fit (c .before .before .pre .0))
+below c = let s = c .before .before in omega (arith, c .loop-test .taken, few-members (s .args .t1) (s .pre .0))
 
 -- one more member, by its conduct
 more : (c : tie.After-is-broken Inv-loop μ-loop) {b : Bool} → b ≡ c .is-broken .result

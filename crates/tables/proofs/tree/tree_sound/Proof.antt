@@ -58,7 +58,8 @@ add-if2 c = omega arith
 
 returns-2 : tie.Need-returns-2 Inv-loop μ-loop
 returns-2 c =
-    let turn = c .before .before .before .before .before .before .before .before in
+    let e = c .before .before .before .before .before in
+    let turn = e .before .before .before in
     let a = turn .before .before .args in
     all-fails _ _ _ (turn .loop-test .taken) (not-higher (a .t1) (a .t2) (turn .before .loop .inv .0) (c .if2 .taken))
 
@@ -70,9 +71,10 @@ loop-less c = omega arith
 
 loop-again : tie.Need-loop-again Inv-loop μ-loop
 loop-again c =
-    let turn = c .before .before .before .before .before .before .before .before in
+    let e = c .before .before .before .before .before in
+    let turn = e .before .before .before in
     let a = turn .before .before .args in
-    (omega arith, all-more _ _ (turn .before .loop .inv .1) (sym (one-higher (a .t1) (a .t2) (c .before .before .before .before .before .if1 .left) (c .if2 .left))))
+    (omega arith, all-more _ _ (turn .before .loop .inv .1) (sym (one-higher (a .t1) (a .t2) (e .if1 .left) (c .if2 .left))))
 
 returns-3 : tie.Need-returns-3 Inv-loop μ-loop
 returns-3 c = all-fewer _ _ _ (c .loop-test .left) (c .before .loop .inv .1)

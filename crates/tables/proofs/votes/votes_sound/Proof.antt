@@ -40,7 +40,8 @@ shared-slice-read-vote-sound c = omega arith
 
 vote-sound-requires : tie.Need-vote-sound-requires Inv-loop μ-loop
 vote-sound-requires c κs =
-    let pre = c .before .before .before .before .before .before .before .pre in
+    let turn = c .before .before .before in
+    let pre = turn .before .before .before .before .pre in
     (pre .0, pre .1, pre .2)
 
 add-k : tie.Need-add-k Inv-loop μ-loop

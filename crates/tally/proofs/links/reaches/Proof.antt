@@ -4,27 +4,38 @@ use native.Mathlib.Nat.{le-antisymm}
 use native.Mathlib.Omega.{arith}
 use mathlib.Core.List.{List}
 use mathlib.Core.Logic.{⊎-elim}
-use mathlib.Core.Path.{_≡_, sym, ap, ap₂, _∙_}
+use mathlib.Core.Path.{_≡_, refl, sym, ap₂, _∙_}
 use mathlib.Core.Bool.{Bool, false, _&&_}
+use borrow.Author.Needs.{needs}
 use lib.ListN.{getD}
 use Rattle.model.specs.Lists.{anyBelow}
 use Rattle.model.proofs.Lists.{found-below, both}
 use Rattle.search.proofs.Below.{any-none, any-more}
 use Rattle.tally.specs.declared.voters.Voters.{Voters}
+use Rattle.tally.specs.declared.voters.Quota.{Quota}
 use Rattle.tally.specs.Chains.{nobody}
 use Rattle.tally.specs.Weights.{carried}
 use Rattle.tally.proofs.links.reaches.Statement.{statement}
 use Rattle.tally.proofs.links.reaches.Tie as tie
 
 -- a source whose link leads on
-abbrev leads : List Bool → List ℕ → ℕ → ℕ → List Voters → ℕ → Bool
-leads justified bonds members total tally k = getD justified k false && carried bonds members total (getD tally k nobody)
+abbrev leads : List Bool → List ℕ → ℕ → Quota → List Voters → ℕ → Bool
+leads justified bonds members quota tally k =
+    getD justified k false && carried bonds members quota (getD tally k nobody)
 
 abbrev Inv-loop : tie.InvT-loop
-Inv-loop justified bonds members total tally end s₀ s = (s ≤ end) × (false ≡ anyBelow s (leads justified bonds members total tally))
+Inv-loop justified bonds members quota tally end s₀ s =
+    (s ≤ end) × (false ≡ anyBelow s (leads justified bonds members quota tally))
 
 abbrev μ-loop : tie.MeasureT-loop
-μ-loop justified bonds members total tally end s₀ s = end - s
+μ-loop justified bonds members quota tally end s₀ s = end - s
+
+-- a round's start, and the sources that lead on there
+abbrev start : tie.In-loop Inv-loop μ-loop → tie.Start Inv-loop μ-loop
+start r = r .before .before .before .before .before
+
+abbrev leading : tie.In-loop Inv-loop μ-loop → ℕ → Bool
+leading r = let a = start r .args in leads (a .justified .now) (a .bonds .now) (a .members) (a .quota) (a .t1)
 
 cast-end : tie.Need-cast-end Inv-loop μ-loop
 cast-end c = omega arith
@@ -42,16 +53,13 @@ array-copy-out-v : tie.Need-array-copy-out-v Inv-loop μ-loop
 array-copy-out-v c = omega arith
 
 carries-requires : tie.Need-carries-requires Inv-loop μ-loop
-carries-requires c κs =
-    let pre = c .before .before .before .before .before .before .before .before .pre in
-    (pre .2, pre .3)
+carries-requires c κs = search needs
 
 returns : tie.Need-returns Inv-loop μ-loop
 returns c =
-    let b = c .before .before .before .before .before in
-    let a = b .before .before .before .before .before .args in
+    let r = c .before .before .before .before .before in
     sym
-    (found-below (a .t .0) (leads (a .justified .now) (a .bonds .now) (a .members) (a .total) (a .t1)) (b .before .loop .s) (b .loop-test .taken)
+    (found-below (start r .args .t .0) (leading r) (r .before .loop .s) (r .loop-test .taken)
     (both (c .before .before .before .if1 .taken) (sym (c .before .carries .ensures) ∙ c .if2 .taken)))
 
 add-s : tie.Need-add-s Inv-loop μ-loop
@@ -61,14 +69,10 @@ loop-less : tie.Need-loop-less Inv-loop μ-loop
 loop-less c = omega arith
 
 -- a source passed does not lead on: it is not justified, or its link is not carried
-fails : (c : tie.Joined1 Inv-loop μ-loop)
-    → (let a = c .before .before .before .before .before .before .before .args in leads (a .justified .now) (a .bonds .now) (a .members) (a .total) (a .t1) (c .before .before .before .loop .s)) ≡ false
-fails c =
-    let b = c .before .before .before in
-    let a = b .before .before .before .before .args in
-    ⊎-elim {C = leads (a .justified .now) (a .bonds .now) (a .members) (a .total) (a .t1) (b .loop .s) ≡ false}
+fails : (c : tie.Joined1 Inv-loop μ-loop) → leading (c .before .before) (c .before .before .before .loop .s) ≡ false
+fails c = ⊎-elim
     (λ w. ap₂ _&&_ (w .0 .taken) (sym (w .2 .ensures) ∙ w .3 .left))
-    (λ w. ap (λ (x : Bool). x && carried (a .bonds .now) (a .members) (a .total) (getD (a .t1) (b .loop .s) nobody)) (w .left))
+    (λ w. ap₂ _&&_ (w .left) refl)
     (c .if1 .came)
 
 loop-again : tie.Need-loop-again Inv-loop μ-loop

@@ -5,14 +5,15 @@ use native.Mathlib.Omega.{arith}
 use lib.Dec.{eqb}
 use lib.ListN.{getD, take, length-replicate}
 use lib.Seq.{length-take-le}
-use Rattle.model.specs.Lists.{firstIndex}
 use Rattle.model.proofs.Lists.{first-le}
 use Rattle.search.proofs.Filled.{Filled, filled-none, filled-more}
+use Rattle.tally.specs.Chains.{memberOf}
 use Rattle.tally.proofs.votes.member_places.Statement.{statement}
 use Rattle.tally.proofs.votes.member_places.Tie as tie
 
 abbrev Inv-loop : tie.InvT-loop
-Inv-loop ids members voters count places₀ k₀ places k = (k ≤ count) × Filled 0 4096 (λ j. firstIndex (λ x. eqb x (getD voters j 0)) (take members ids)) places k
+Inv-loop ids members voters count places₀ k₀ places k =
+    (k ≤ count) × Filled 0 4096 (memberOf ids members voters) places k
 
 abbrev μ-loop : tie.MeasureT-loop
 μ-loop ids members voters count places₀ k₀ places k = count - k

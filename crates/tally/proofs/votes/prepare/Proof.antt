@@ -1,20 +1,29 @@
 -- `tally::votes::prepare` meets its contract. Assumes nothing.
+use Prim.Native.Nat.{ℕ, _<_}
+use native.Mathlib.Omega.{arith}
 use borrow.Author.Needs.{needs}
-use Rattle.tally.proofs.Backed.{bonds-good, ids-fit, targets-fit}
+use Rattle.tables.specs.Places.{placeAt}
+use Rattle.state.specs.declared.Witness.{Witness}
+use Rattle.state.specs.Sound.{Sound}
+use Rattle.state.proofs.Sound.{few-members, few-checkpoints, few-votes, ids-long, voters-long, target-held}
+use Rattle.tally.proofs.Totals.{quota-is, bonds-good}
 use Rattle.tally.proofs.votes.prepare.Statement.{statement}
 use Rattle.tally.proofs.votes.prepare.Tie as tie
 
+target-low : (w : Witness) (sound : Sound w) (k : ℕ) → k < w .«vote_count» → placeAt (w .targets) k < 512
+target-low w sound k h = omega (arith, target-held w sound k h, few-checkpoints w sound)
+
 member-places-requires : tie.Need-member-places-requires
-member-places-requires c κs = ids-fit (c .before .before .before .before .before .before .args .t1) (c .before .before .before .before .before .before .pre .typed) (c .before .before .before .before .before .before .pre .good)
+member-places-requires c κs = search (needs, ids-long, few-members, voters-long, few-votes)
 
 bucket-requires : tie.Need-bucket-requires
-bucket-requires c κs = targets-fit (c .before .before .before .before .before .before .before .args .t1) (c .before .before .before .before .before .before .before .pre .typed) (c .before .before .before .before .before .before .before .pre .good)
+bucket-requires c κs = search (needs, few-votes, target-low)
 
 total-bond-requires : tie.Need-total-bond-requires
-total-bond-requires c κs = bonds-good (c .before .before .before .before .before .before .before .before .before .before .before .before .before .args .t1) (c .before .before .before .before .before .before .before .before .before .before .before .before .before .pre .typed) (c .before .before .before .before .before .before .before .before .before .before .before .before .before .pre .good)
+total-bond-requires c κs = search (needs, bonds-good)
 
 returns : tie.Need-returns
-returns c = search needs
+returns c = search (needs, quota-is)
 
 pub prepare-spec : {M : Type 1} → statement M
 prepare-spec =

@@ -1,0 +1,81 @@
+-- The rows of each kind of record: refused by one of them, or taken, and then none of them applies. What is to be shown is asked
+-- for once for each row.
+use Prim.Native.Nat.{ℕ}
+use mathlib.Core.Path.{_≡_}
+use mathlib.Core.List.{List, [], _∷_}
+use mathlib.Core.Bool.{false, not}
+use lib.ListN.{length}
+use lib.Dec.{leb}
+use Rattle.model.specs.Answer.{Answer, refused, answer, andThen}
+use Rattle.model.specs.Change.{Change, addMember, addCheckpoint, addVote}
+use Rattle.model.specs.Decide.{membersFixed, bondOutOfRange, decideMember, newCheckpoint, decideCheckpoint, heightsAgree, newVote, voteBetween, voteOf, room, decideVote}
+use Rattle.model.specs.Limits.{memberLimit, checkpointLimit, voteLimit}
+use Rattle.model.specs.Lists.{All, none, each}
+use Rattle.model.specs.Model.{Model, Member, Vote, placeOf, idHeld, nameHeld, voteHeld}
+use Rattle.model.specs.Tree.{ancestor?}
+use Rattle.model.proofs.Answer.{row-elim}
+
+abbrev pub memberRows : List ℕ
+memberRows = 10 ∷ 11 ∷ 12 ∷ 13 ∷ []
+
+abbrev pub checkpointRows : List ℕ
+checkpointRows = 20 ∷ 21 ∷ 22 ∷ []
+
+abbrev pub voteRows : List ℕ
+voteRows = 30 ∷ 31 ∷ 32 ∷ 33 ∷ 34 ∷ 35 ∷ 36 ∷ []
+
+-- a member's record that passes its rows
+pub record MemberPasses (m : Model) (x : Member) : Type 0 where
+  pub unfixed : membersFixed m ≡ false
+  pub bond : bondOutOfRange (x .bond) ≡ false
+  pub fresh : idHeld m (x .id) ≡ false
+  pub fits : leb memberLimit (length (m .members)) ≡ false
+
+-- a checkpoint's
+pub record CheckpointPasses (m : Model) (name parent : List ℕ) : Type 0 where
+  pub fresh : nameHeld m name ≡ false
+  pub held : not (nameHeld m parent) ≡ false
+  pub fits : leb checkpointLimit (length (m .checkpoints)) ≡ false
+
+-- a vote's, by rows 30 to 35
+pub record VotePasses (m : Model) (id : ℕ) (source target : List ℕ) (sourceHeight targetHeight : ℕ) : Type 0 where
+  pub member : not (idHeld m id) ≡ false
+  pub from : not (nameHeld m source) ≡ false
+  pub to : not (nameHeld m target) ≡ false
+  pub heights : not (heightsAgree m (newVote m id source target) sourceHeight targetHeight) ≡ false
+  pub climbs : not (ancestor? (m .checkpoints) (placeOf (m .checkpoints) source) (placeOf (m .checkpoints) target)) ≡ false
+  pub fresh : voteHeld (m .votes) (newVote m id source target) ≡ false
+
+module _ (m : Model) (P : Answer Change → Type 0) where
+  pub member-elim : (x : Member) → All (λ n. P (refused n)) memberRows → (MemberPasses m x → P (answer (addMember x))) → P (decideMember m x)
+  unfolding decideMember
+  member-elim x (each r10 (each r11 (each r12 (each r13 none)))) taken =
+      row-elim P 10 _ _ r10 λ unfixed.
+      row-elim P 11 _ _ r11 λ bond.
+      row-elim P 12 _ _ r12 λ fresh.
+      row-elim P 13 _ _ r13 λ fits.
+      taken (record { unfixed = unfixed; bond = bond; fresh = fresh; fits = fits })
+
+  pub checkpoint-elim : (name parent : List ℕ) → All (λ n. P (refused n)) checkpointRows
+      → (CheckpointPasses m name parent → P (answer (addCheckpoint (newCheckpoint m name parent)))) → P (decideCheckpoint m name parent)
+  unfolding decideCheckpoint
+  checkpoint-elim name parent (each r20 (each r21 (each r22 none))) taken =
+      row-elim P 20 _ _ r20 λ fresh.
+      row-elim P 21 _ _ r21 λ held.
+      row-elim P 22 _ _ r22 λ fits.
+      taken (record { fresh = fresh; held = held; fits = fits })
+
+  pub vote-elim : (id : ℕ) (source target : List ℕ) (sourceHeight targetHeight : ℕ) → All (λ n. P (refused n)) voteRows
+      → (VotePasses m id source target sourceHeight targetHeight → leb voteLimit (length (m .votes)) ≡ false → P (answer (addVote (newVote m id source target))))
+      → P (decideVote m id source target sourceHeight targetHeight)
+  unfolding decideVote voteOf voteBetween andThen room
+  vote-elim id source target h k (each r30 (each r31 (each r32 (each r33 (each r34 (each r35 (each r36 none))))))) taken =
+      let Q : Answer Vote → Type 0 = λ a. P (andThen a (room m)) in
+      row-elim Q 30 _ _ r30 λ member.
+      row-elim Q 31 _ _ r31 λ from.
+      row-elim Q 32 _ _ r32 λ to.
+      row-elim Q 33 (not (heightsAgree m (newVote m id source target) h k)) _ r33 λ heights.
+      row-elim Q 34 _ _ r34 λ climbs.
+      row-elim Q 35 _ _ r35 λ fresh.
+      row-elim P 36 _ _ r36 λ fits.
+      taken (record { member = member; from = from; to = to; heights = heights; climbs = climbs; fresh = fresh }) fits

@@ -1,0 +1,43 @@
+-- What an event comes to: what is told of it, and the changes that it makes, in order.
+use mathlib.Core.List.{List, [], _∷_, _++_}
+use Rattle.model.specs.Answer.{Answer, refused, answer}
+use Rattle.model.specs.Model.{Model, Member, Checkpoint, Vote, withMembers, withCheckpoints, withVotes}
+
+-- one change of what is held
+pub data Change : Type 0 where
+  addMember : Member → Change
+  addCheckpoint : Checkpoint → Change
+  addVote : Vote → Change
+
+-- "a member goes to the end of its list; so does a checkpoint ..; so does a vote"
+unfoldable pub append : Model → Change → Model
+append m (addMember x) = withMembers m (m .members ++ x ∷ [])
+append m (addCheckpoint c) = withCheckpoints m (m .checkpoints ++ c ∷ [])
+append m (addVote v) = withVotes m (m .votes ++ v ∷ [])
+
+unfoldable pub appendAll : Model → List Change → Model
+appendAll m [] = m
+appendAll m (c ∷ cs) = appendAll (append m c) cs
+
+-- what is told of an event that is not refused
+pub data Told : Type 0 where
+  nothingLeft : Told
+  taken : Told
+
+-- what is decided on an event
+pub record Decision : Type 0 where
+  pub told : Answer Told
+  pub changes : List Change
+
+-- by the rows of one record, which add one thing: "The first that applies is the refusal, and the lists stay."
+unfoldable pub single : Answer Change → Decision
+single (refused n) = record { told = refused n; changes = [] }
+single (answer c) = record { told = answer taken; changes = c ∷ [] }
+
+-- no record was left to read
+abbrev pub nothingRead : Decision
+nothingRead = record { told = answer nothingLeft; changes = [] }
+
+-- the model after what was decided
+abbrev pub decided : Model → Decision → Model
+decided m d = appendAll m (d .changes)

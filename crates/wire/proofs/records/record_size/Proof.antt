@@ -1,0 +1,29 @@
+-- `wire::records::record_size` meets its contract. Assumes nothing.
+use mathlib.Core.Path.{sym, ap}
+use Rattle.model.specs.Log.{kindOf, sizeOf, recordSize}
+use Rattle.model.proofs.Log.{other-kind}
+use Rattle.wire.proofs.records.record_size.Statement.{statement}
+use Rattle.wire.proofs.records.record_size.Tie as tie
+
+returns : tie.Need-returns
+unfolding recordSize sizeOf kindOf
+returns c = sym (ap recordSize (c .match .keys1))
+
+returns-2 : tie.Need-returns-2
+unfolding recordSize sizeOf kindOf
+returns-2 c = sym (ap recordSize (c .match .keys2))
+
+returns-3 : tie.Need-returns-3
+unfolding recordSize sizeOf kindOf
+returns-3 c = sym (ap recordSize (c .match .keys3))
+
+returns-4 : tie.Need-returns-4
+unfolding recordSize sizeOf kindOf
+returns-4 c = sym (ap recordSize (c .match .keys4))
+
+returns-5 : tie.Need-returns-5
+unfolding recordSize sizeOf
+returns-5 c = let other = c .match .rest .0 in sym (ap sizeOf (other-kind (c .before .args .kind) (other .0 .0 .1) (other .0 .1) (other .1)))
+
+pub record-size-spec : {M : Type 1} → statement M
+record-size-spec = tie.close (tie.spec returns returns-2 returns-3 returns-4 returns-5)
