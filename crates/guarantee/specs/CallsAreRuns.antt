@@ -55,7 +55,8 @@ pub record ManyRun (n : ℕ) (w : Witness) (log : List ℕ) (at : ℕ) (m : Many
   pub at-most : length (m .passed) ≤ n
   pub rows-used : length (m .passed) ≡ n → m .end ≡ rowsUsed
   pub ended-early : length (m .passed) < n
-      → (recordLength (drop (m .next) log) ≡ 0) × (m .end ≡ endedBy (eventCall (m .witness) (reading (drop (m .next) log)) .told))
+      → (recordLength (drop (m .next) log) ≡ 0)
+      × (m .end ≡ endedBy (eventCall (m .witness) (reading (drop (m .next) log)) .told))
 
 abbrev pub ManyIsRun : Type 0
 ManyIsRun = (w : Witness) → Typed w → sound? w ≡ true → (n : ℕ) (log : List ℕ) → AreBytes log → (at : ℕ) → ManyRun n w log at (manyCall n w log at)
@@ -96,8 +97,8 @@ FeedIsRun = (w : Witness) → Typed w → sound? w ≡ true → (room k : ℕ) (
 
 -- ---- calls that leave the witness handed in
 
--- an event that is refused; `close`; `open` on a header that is refused; and every call on a state that is not sound, which does
--- nothing but say so
+-- an event that is refused; `close`; `open` on a header that is refused; and every call on a state that is not sound,
+-- which does nothing but say so
 pub record WitnessKept (w : Witness) : Type 0 where
   pub refused-keeps : (e : Event) (n : ℕ) → eventCall w e .told ≡ refused n → stored w (eventCall w e) ≡ w
   pub close-keeps : (room k left : ℕ) → endCall room w k left .witness ≡ w

@@ -34,7 +34,8 @@ pub record ByTheRules (w : Witness) (b : Model) : Type 0 where
   pub conflict-exact : ConflictExact b
   -- our list: written, whatever the buffer, unless 60 applies, which leaves the buffer; it is what the section on charges calls for
   pub list-answer : (buffer : List ℕ) → writeCall ourList w buffer ≡ writeText (ourList b) buffer
-  pub list-written : (buffer : List ℕ) → writeBuffer ourList w buffer ≡ bufferAfter (ourList b) buffer (writeText (ourList b) buffer)
+  pub list-written : (buffer : List ℕ)
+      → writeBuffer ourList w buffer ≡ bufferAfter (ourList b) buffer (writeText (ourList b) buffer)
   pub list-exact : ListExact b
   -- "of all lists of charges, whoever wrote them, the checker passes exactly those .."; "so none that names a member whose
   -- votes keep both commandments"

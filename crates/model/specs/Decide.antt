@@ -1,6 +1,6 @@
--- What is decided on the bytes from an offset on. Rows 4 and 5, then those of the record's kind, in rising number. Rows 1 to 3,
--- and what makes a kind unknown or a record cut (4 and 5), are in Log.antt; row 40 in WellFormed.antt, 41 in Support.antt and
--- Finality.antt, 60 in Buffer.antt, 50 to 57 in Checker.antt. None of these rows is written twice.
+-- What is decided on the bytes from an offset on: rows 4 and 5, then those of the record's kind, in rising number. Rows
+-- 1 to 3, and what makes a kind unknown or a record cut (4 and 5), are in Log.antt; row 40's condition in
+-- WellFormed.antt, 41 in Support.antt and Finality.antt, 50 to 57 in Checker.antt, 60 in Buffer.antt.
 use Prim.Native.Nat.{ℕ, _+_}
 use mathlib.Core.List.{List}
 use mathlib.Core.Bool.{Bool, _&&_, _||_, not}
@@ -32,7 +32,8 @@ decideMember m x =
 -- the checkpoint that a record gives
 abbrev pub newCheckpoint : Model → List ℕ → List ℕ → Checkpoint
 newCheckpoint m name parent =
-    let p = placeOf (m .checkpoints) parent in record { name = name; parent = p; height = heightOf (m .checkpoints) p + 1 }
+    let p = placeOf (m .checkpoints) parent in
+    record { name = name; parent = p; height = heightOf (m .checkpoints) p + 1 }
 
 unfoldable pub decideCheckpoint : Model → List ℕ → List ℕ → Answer Change
 decideCheckpoint m name parent =
@@ -71,7 +72,8 @@ unfoldable pub room : Model → Vote → Answer Change
 room m v = row 36 (leb voteLimit (length (m .votes))) (answer (addVote v))
 
 unfoldable pub decideVote : Model → ℕ → List ℕ → List ℕ → ℕ → ℕ → Answer Change
-decideVote m id source target sourceHeight targetHeight = andThen (voteOf m id source target sourceHeight targetHeight) (room m)
+decideVote m id source target sourceHeight targetHeight =
+    andThen (voteOf m id source target sourceHeight targetHeight) (room m)
 
 unfoldable pub decideRecord : Model → Record → Decision
 decideRecord m noRecord = nothingRead
@@ -79,7 +81,8 @@ decideRecord m unknownKind = single (refused 4)
 decideRecord m cutRecord = single (refused 5)
 decideRecord m (memberRecord id bond) = single (decideMember m (record { id = id; bond = bond }))
 decideRecord m (checkpointRecord name parent) = single (decideCheckpoint m name parent)
-decideRecord m (voteRecord id source target sourceHeight targetHeight) = single (decideVote m id source target sourceHeight targetHeight)
+decideRecord m (voteRecord id source target sourceHeight targetHeight) =
+    single (decideVote m id source target sourceHeight targetHeight)
 
 unfoldable pub decide : Model → List ℕ → Decision
 decide m s = decideRecord m (decode s)

@@ -95,4 +95,6 @@ FeedGoesOn = (room : ℕ) (w : Witness) (k : ℕ) (s : List ℕ) → lineRoom �
 
 -- A call of `close` with room for its text ends the report. No summary has more than 65,536 bytes (crate summary).
 abbrev pub CloseEnds : Type 0
-CloseEnds = (room : ℕ) (w : Witness) (k left : ℕ) → sound? w ≡ true → length (endText (modelOf w) k left) ≤ room → endCall room w k left .paused ≡ ended
+CloseEnds =
+    (room : ℕ) (w : Witness) (k left : ℕ) → sound? w ≡ true → length (endText (modelOf w) k left) ≤ room
+    → endCall room w k left .paused ≡ ended

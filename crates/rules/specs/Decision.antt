@@ -14,5 +14,6 @@ abbrev pub decisionOf : List ℕ → Decision → Decided
 decisionOf s Nothing = nothingRead
 decisionOf s (Refuse r) = single (refused (refusalNumber r))
 decisionOf s (Member id bond) = single (answer (addMember (record { id = id; bond = bond })))
-decisionOf s (Checkpoint p h) = single (answer (addCheckpoint (record { name = part 1 32 s; parent = p .0; height = h .0 })))
+decisionOf s (Checkpoint p h) =
+    single (answer (addCheckpoint (record { name = part 1 32 s; parent = p .0; height = h .0 })))
 decisionOf s (Vote id source target) = single (answer (addVote (voteFor id (source .0) (target .0))))

@@ -1,5 +1,5 @@
--- What the rows' leaves rely on: the lent arrays are as long as the counts say, parents stand at smaller places, a child's height
--- fits, and the votes' numbers are in chains. Those of a sound witness are so.
+-- What the rows' leaves rely on: the lent arrays are as long as the counts say, parents stand at smaller places, a
+-- child's height fits, and the votes' numbers are in chains. Those of a sound witness are so.
 use Prim.Native.Nat.{ℕ, _*_, _≤_}
 use mathlib.Core.List.{List}
 use lib.ListN.{length}

@@ -43,7 +43,8 @@ supportCall w s t = onSound w (λ m. supportAt m s t)
 unfoldable pub conflictCall : Witness → Answer Bool
 conflictCall w = onSound w (λ m. answer (conflicting? m))
 
--- a text into a lent buffer: its length, 60 where the buffer is shorter; and the buffer afterwards, which a refusal leaves
+-- a text into a lent buffer: its length, 60 where the buffer is shorter; and the buffer afterwards, which a refusal
+-- leaves as it was
 
 unfoldable pub writeCall : (Model → List ℕ) → Witness → List ℕ → Answer ℕ
 writeCall text w buffer = onSound w (λ m. writeText (text m) buffer)

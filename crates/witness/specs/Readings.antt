@@ -14,4 +14,6 @@ passed w s = cond (sound? w) (recordLength s) 0
 
 -- reading on: 40 where the state is not sound, and nothing is read
 unfoldable pub manyCall : ℕ → Witness → List ℕ → ℕ → Many
-manyCall n w log at = cond (sound? w) (readMany n w log at) (record { passed = []; end = endedBy (refused 40); next = at; witness = w })
+manyCall n w log at =
+    cond (sound? w) (readMany n w log at)
+    (record { passed = []; end = endedBy (refused 40); next = at; witness = w })
