@@ -1,5 +1,5 @@
-// An implementation of document 01 on its own: written from the document, with hash maps where the library has arrays.
-// It shares nothing with the library but the document.
+// An implementation of document 01 and the change requests done on its own: written from the documents, with hash maps
+// where the library has arrays. It shares nothing with the library but the documents.
 use std::collections::{BTreeMap, HashMap, HashSet};
 
 pub const MAX_MEMBERS: usize = 128;
@@ -280,12 +280,13 @@ impl Witness {
         strong
     }
 
-    // The standing of every checkpoint: what supermajority links reach from the root is justified.
+    // The standing of every checkpoint: what supermajority links reach from the root is justified, and a link to a
+    // child makes its source final. The root is final without one.
     pub fn statuses(&self) -> Vec<Status> {
         let strong = self.strong_links();
         let mut status = vec![Status::Plain; self.checkpoints.len()];
         let mut waiting = vec![0];
-        status[0] = Status::Justified;
+        status[0] = Status::Final;
         while let Some(source) = waiting.pop() {
             for &target in strong.get(&source).into_iter().flatten() {
                 if self.checkpoints[target].parent == Some(source) {

@@ -74,14 +74,14 @@ fn charged(first: (u32, u32), second: (u32, u32)) -> bool {
     reference::read_log(&log).witness.charges().len() == 1
 }
 
-// Every case that the document marks.
+// Every case that the document marks, the header alone as request K1 words it.
 pub fn check() {
     let log = worked();
     assert_eq!(reference::report(&log), REPORT);
     let reading = reference::read_log(&log);
     assert_eq!(reading.witness.list(), LIST);
     assert_eq!(reading.witness.check(LIST), Ok(1));
-    assert_eq!(reference::report(&header(0)), "checkpoint 0 height 0 justified\ntotal 0 named 0 conflict no\n");
+    assert_eq!(reference::report(&header(0)), "checkpoint 0 height 0 final\ntotal 0 named 0 conflict no\n");
     for (sum, total, answer) in [(2, 3, true), (2, 4, false), (3, 4, true), (66, 100, false), (67, 100, true), (0, 0, false)] {
         assert_eq!(is_supermajority(sum, total), answer);
     }

@@ -429,9 +429,14 @@ def bar_logs():
 def standing_logs():
     both = [1, 2]
     return {
-        "root-final": log(SMALL, votes(both, ROOT, A)),
-        "root-not-final-by-a-grandchild": log(SMALL, votes(both, ROOT, C)),
-        "final-by-a-child-not-a-grandchild": log(SMALL, votes(both, ROOT, A), votes(both, A, E)),
+        "root-final-with-no-vote": log(SMALL),
+        "root-final-its-child-justified": log(SMALL, votes(both, ROOT, A)),
+        "root-final-its-grandchild-justified": log(SMALL, votes(both, ROOT, C)),
+        "not-final-by-a-grandchild": log(SMALL, votes(both, ROOT, A), votes(both, A, E)),
+        "not-final-by-a-final-descendant": log(SMALL, votes(both, ROOT, A), votes(both, A, E), votes(both, E, G)),
+        "final-by-the-first-of-two-children": log(
+            THREE, checkpoint(A, ROOT), checkpoint(C, A), checkpoint(D, A), votes(both, ROOT, A), votes(both, A, C)
+        ),
         "final-after-a-skip": log(SMALL, votes(both, ROOT, C), votes(both, C, E)),
         "late-justification": log(SMALL, votes(both, A, C), votes(both, ROOT, A)),
         "late-justification-never-comes": log(SMALL, votes(both, A, C), vote(1, ROOT, A)),

@@ -1,8 +1,8 @@
 #!/usr/bin/env python3
 """Prints what the program `full` must print; its output is stored beside this file as `stdout`.
 
-It makes the log of src/main.rt by the same formula, and answers by code of its own: document 01 with
-dictionaries and sets, nothing taken from the witness. Run it: python3 expected.py > stdout
+It makes the log of src/main.rt by the same formula, and answers by code of its own: document 01 and
+the requests done, with dictionaries and sets, nothing taken from the witness. Run it: python3 expected.py > stdout
 """
 import itertools
 import struct
@@ -187,7 +187,7 @@ class Book:
             new = {t for s, t in self.strong if s in self.justified} - self.justified
             self.justified |= new
             grown = bool(new)
-        self.final = {s for s, t in self.strong if s in self.justified and self.parents[t] == s}
+        self.final = {0} | {s for s, t in self.strong if s in self.justified and self.parents[t] == s}
 
     def support(self, s, t):
         crowd_behind = self.behind.get((s, t), set())

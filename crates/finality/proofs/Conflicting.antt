@@ -5,18 +5,18 @@ use native.Mathlib.Omega.{arith}
 use mathlib.Core.Path.{_≡_, sym, ap, _∙_, subst}
 use mathlib.Core.Logic.{_⊎_, inl, inr, ⊎-elim}
 use mathlib.Core.List.{List}
-use mathlib.Core.Bool.{Bool, true, false, not}
+use mathlib.Core.Bool.{Bool, true, not}
 use borrow.Author.Tests.{not-true}
 use lib.ListN.{length}
 use Rattle.model.specs.Lists.{anyBelow}
 use Rattle.model.specs.Model.{Model, Checkpoint}
 use Rattle.model.specs.Tree.{Ancestor, near, far, Conflict, ancestor?}
-use Rattle.model.specs.Finality.{Final, ConflictingFinals, final?, conflicting?}
+use Rattle.model.specs.Finality.{Final, genesis, ConflictingFinals, final?, conflicting?}
 use Rattle.model.specs.WellFormed.{WellFormed}
 use Rattle.model.proofs.Lists.{decided, clash, not-so, both, and-left, and-right, lt-or-ge}
 use Rattle.model.proofs.Lists.{Below, below-found, found-below}
-use Rattle.model.proofs.Tree.{ancestor-later, ancestor-true, true-ancestor}
-use Rattle.model.proofs.Finality.{justified-held, final-true, true-final, conflict-exact}
+use Rattle.model.proofs.Tree.{ancestor-later, ancestor-true, true-ancestor, conflict-swap}
+use Rattle.model.proofs.Finality.{final-held, final-true, true-final, conflict-exact}
 use Rattle.search.specs.Chains.{lastBelow}
 use Rattle.search.proofs.Below.{same-test}
 use Rattle.search.proofs.Chains.{last-le, last-above, last-at}
@@ -36,22 +36,16 @@ comparable {cs} {a} {b} (far up c) (far over d) =
 module _ (m : Model) (good : WellFormed m) (fin : ℕ → Bool)
     (is : (p : ℕ) → p < length (m .checkpoints) → fin p ≡ final? m p) where
   final-fin : {p : ℕ} → Final m p → fin p ≡ true
-  final-fin {p} f = is p (justified-held m good (f .justified)) ∙ true-final m good p f
+  final-fin {p} f = is p (final-held m good f) ∙ true-final m good p f
 
-  final-held : {p : ℕ} → Final m p → p < length (m .checkpoints)
-  final-held f = justified-held m good (f .justified)
+  -- the root passes the test
+  pub root-fin : fin 0 ≡ true
+  root-fin = final-fin genesis
 
-  -- where nothing is final, nothing conflicts
-  pub no-final : lastBelow (length (m .checkpoints)) fin ≡ 0 → false ≡ conflicting? m
-  no-final e = sym (not-so (λ t. none (conflict-exact m good .0 t)))
-    where
-      none : ConflictingFinals m → ⊥
-      none c = clash (final-fin (c .one-final)) (last-above fin _ (c .one) (final-held (c .one-final)) (omega arith))
-
-  -- otherwise the greatest final place decides
-  pub some-final : (f : ℕ) → lastBelow (length (m .checkpoints)) fin ≡ suc f
+  -- the greatest final place decides
+  pub last-decides : (f : ℕ) → lastBelow (length (m .checkpoints)) fin ≡ suc f
       → anyBelow f (stray fin (m .checkpoints) f) ≡ conflicting? m
-  some-final f e = same-test (λ t. there (below-found f test t)) (λ t. back (conflict-exact m good .0 t))
+  last-decides f e = same-test (λ t. there (below-found f test t)) (λ t. back (conflict-exact m good .0 t))
     where
       test : ℕ → Bool
       test = stray fin (m .checkpoints) f
@@ -83,7 +77,7 @@ module _ (m : Model) (good : WellFormed m) (fin : ℕ → Bool)
       -- no final place is past f
       low : (p : ℕ) → Final m p → p ≤ f
       low p x = ⊎-elim
-          (λ l. clash (final-fin x) (last-above fin (length (m .checkpoints)) p (final-held x) (omega arith)))
+          (λ l. clash (final-fin x) (last-above fin (length (m .checkpoints)) p (final-held m good x) (omega arith)))
           (λ l. l)
           (lt-or-ge f p)
 
@@ -108,9 +102,6 @@ module _ (m : Model) (good : WellFormed m) (fin : ℕ → Bool)
           differ : b ≡ f → ⊥
           differ r = c .differ (q ∙ sym r)
 
-      turned : {a b : ℕ} → Conflict (m .checkpoints) a b → Conflict (m .checkpoints) b a
-      turned c = record { differ = λ q. c .differ (sym q); not-above = c .not-below; not-below = c .not-above }
-
       -- two ancestors of f don't conflict
       in-line : {a b : ℕ} → Conflict (m .checkpoints) a b
           → Ancestor (m .checkpoints) a f → Ancestor (m .checkpoints) b f → ⊥
@@ -127,7 +118,7 @@ module _ (m : Model) (good : WellFormed m) (fin : ℕ → Bool)
           (λ k. neither (c .one) (c .other) (c .one-final) (c .other-final) l k (c .conflict))
           (λ k.
           let last : c .other ≡ f = omega (arith, low (c .other) (c .other-final)) in
-          top (c .other) (c .one) (c .one-final) last (turned (c .conflict)))
+          top (c .other) (c .one) (c .one-final) last (conflict-swap (c .conflict)))
           (lt-or-ge (c .other) f))
           (λ l. top (c .one) (c .other) (c .other-final) (omega (arith, low (c .one) (c .one-final))) (c .conflict))
           (lt-or-ge (c .one) f)

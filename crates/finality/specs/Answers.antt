@@ -1,5 +1,5 @@
 -- The answers, in the model's terms.
-use Prim.Native.Nat.{ℕ, _+_}
+use Prim.Native.Nat.{ℕ}
 use mathlib.Core.Path.{_≡_}
 use mathlib.Core.List.{List}
 use mathlib.Core.Bool.{Bool, _&&_, not}
@@ -12,8 +12,6 @@ use Rattle.tally.specs.declared.voters.Quota.{Quota}
 use Rattle.tally.specs.Bits.{among, countBelow}
 use Rattle.tally.specs.Weights.{weightOf, enough}
 use Rattle.finality.specs.declared.Backing.{Backing}
-use Rattle.finality.specs.declared.finals.LastFinal.{LastFinal}
-use Rattle.finality.specs.declared.finals.LastFinal.the-variants.{Nowhere, At}
 
 -- the backing that the voters give, by the bonds of the members
 pub record IsBacking (bonds : List ℕ) (members : ℕ) (quota : Quota) (v : Voters) (b : Backing) : Type 0 where
@@ -28,8 +26,3 @@ backingOf b = record { number = b .number; bonds = b .bonds; yes? = b .quorum }
 -- p is a final place, by the test `fin`, and no ancestor of f
 abbrev pub stray : (ℕ → Bool) → List Checkpoint → ℕ → ℕ → Bool
 stray fin cs f p = fin p && not (ancestor? cs p f)
-
--- the greatest final place plus 1; 0 where none is final
-abbrev pub lastOf : LastFinal → ℕ
-lastOf Nowhere = 0
-lastOf (At p) = p .0 + 1

@@ -3,31 +3,27 @@ use model::MAX_CHECKPOINTS;
 use model::Place;
 use standing::Analysis;
 ghost use mathlib.Core.Path.{_≡_};
-ghost use Prim.Native.Nat.{_≤_, _<_};
+ghost use mathlib.Core.Bool.{true};
+ghost use Prim.Native.Nat.{_+_, _≤_, _<_};
 ghost use Rattle.model.specs.Limits.{checkpointLimit};
 ghost use Rattle.model.specs.Lists.{anyBelow};
 ghost use Rattle.tables.specs.Places.{treeOf, Falling};
 ghost use Rattle.search.specs.Chains.{lastBelow};
 ghost use Rattle.standing.specs.Answers.{isFinal};
-ghost use Rattle.finality.specs.Answers.{stray, lastOf};
+ghost use Rattle.finality.specs.Answers.{stray};
 
-// The greatest final place, where there is one.
-pub enum LastFinal {
-    Nowhere,
-    At(Place),
-}
-
-pub fn last_final(a: Analysis, places: usize) -> LastFinal
-    requires { ⌜ places ≤ checkpointLimit ⌝ }
-    ensures { λ r. ⌜ lastOf r ≡ lastBelow places (isFinal a) ⌝ }
+// The greatest final place. There is one, since the root is final.
+pub fn last_final(a: Analysis, places: usize) -> Place
+    requires { ⌜ (0 < places) × (places ≤ checkpointLimit) × (isFinal a 0 ≡ true) ⌝ }
+    ensures { λ r. ⌜ r .0 + 1 ≡ lastBelow places (isFinal a) ⌝ }
 {
-    let mut last = LastFinal::Nowhere;
-    let mut p: usize = 0;
+    let mut last = Place(0);
+    let mut p: usize = 1;
     while p < places {
         let fin = a.justified[p] & a.finalizing[p];
         if fin {
             let here = p as u16;
-            last = LastFinal::At(Place(here));
+            last = Place(here);
         }
         p += 1;
     }

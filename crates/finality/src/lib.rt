@@ -3,7 +3,6 @@
 // well-formed.
 pub mod finals;
 
-use crate::finals::LastFinal;
 use model::Place;
 use model::Status;
 use standing::status_of;
@@ -78,8 +77,6 @@ pub fn conflict(w: Witness) -> bool
     let places = w.checkpoint_count;
     let parents = w.parents;
     let a = statuses(w);
-    match finals::last_final(a, places) {
-        LastFinal::Nowhere => false,
-        LastFinal::At(f) => finals::strays(a, parents, places, f),
-    }
+    let f = finals::last_final(a, places);
+    finals::strays(a, parents, places, f)
 }

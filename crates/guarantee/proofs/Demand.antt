@@ -17,7 +17,7 @@ use Rattle.model.specs.WellFormed.{WellFormed}
 use Rattle.model.proofs.Bytes.{drop-bytes}
 use Rattle.model.proofs.Checker.{checker-exact, list-exact, our-list-passes}
 use Rattle.model.proofs.Conduct.{conduct-exact}
-use Rattle.model.proofs.Finality.{status-exact, conflict-exact}
+use Rattle.model.proofs.Finality.{status-exact, root-answer, conflict-exact}
 use Rattle.model.proofs.Readings.{readings-bound, readings-bytes}
 use Rattle.safety.proofs.Safety.{accountable-safety, no-innocent-named}
 use Rattle.state.specs.Sound.{Sound}
@@ -89,6 +89,7 @@ module _ (w : Witness) (b : Model) (h : Holds w b) where
     held = h .model;
     status-answer = λ p. answered w b h _;
     status-exact = status-exact b (good w b h);
+    root-final = answered w b h _ ∙ root-answer b (good w b h);
     support-answer = λ s t. answered w b h _;
     conflict-answer = answered w b h _;
     conflict-exact = conflict-exact b (good w b h);

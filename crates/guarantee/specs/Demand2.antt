@@ -13,6 +13,7 @@ use Rattle.model.specs.Evidence.{ourList, violator?}
 use Rattle.model.specs.Exact.{StatusExact, ConflictExact, ConductExact, ListExact, CheckerExact}
 use Rattle.model.specs.Finality.{statusAt, conflicting?}
 use Rattle.model.specs.Model.{Model}
+use Rattle.model.specs.declared.Status.the-variants.{Final as FinalStatus}
 use Rattle.model.specs.Support.{supportAt, sum}
 use Rattle.safety.specs.Share.{NamesViolators}
 use Rattle.state.specs.Sound.{Typed, sound?}
@@ -27,6 +28,8 @@ pub record ByTheRules (w : Witness) (b : Model) : Type 0 where
   -- the standings: the call's answer, and what it means
   pub status-answer : (p : ℕ) → statusCall w p ≡ statusAt b p
   pub status-exact : (p : ℕ) → StatusExact b p
+  -- "The root shall be final from the header on, with no link needed."
+  pub root-final : statusCall w 0 ≡ answer FinalStatus
   -- the support of a link
   pub support-answer : (s t : ℕ) → supportCall w s t ≡ supportAt b s t
   -- the conflict answer

@@ -1,5 +1,6 @@
--- Cases, each computed, in three tables: those that document 01 marks ●; those that shut out plausible and wrong
--- versions; and for each row of "Why something is turned back" that the model decides, at least one.
+-- Cases, each computed, in three tables: those that document 01 marks ●, as the change requests word them now; those
+-- that shut out plausible and wrong versions; and for each row of "Why something is turned back" that the model
+-- decides, at least one.
 use Prim.Native.Nat.{ℕ}
 use Prim.Native.String.{String}
 use mathlib.Core.Path.{_≡_, refl}
@@ -13,7 +14,7 @@ use Rattle.model.specs.Checker.{check, checkFrom, entries, ownVote?}
 use Rattle.model.specs.Change.{addMember, addCheckpoint, addVote, append, appendAll, single, nothingLeft, taken}
 use Rattle.model.specs.Decide.{decide, decideRecord, decideMember, decideCheckpoint, voteBetween, voteOf, room, decideVote, heightsAgree, bondOutOfRange, membersFixed}
 use Rattle.model.specs.Evidence.{ourList, charges, chargeOf, conduct, conductFrom, broken?, violator?, byId, insertById, listBytes, entryBytes, bondOf}
-use Rattle.model.specs.Finality.{justifiedMarks, justified?, final?, status, statusAt, conflicting?}
+use Rattle.model.specs.Finality.{justifiedMarks, justified?, sealed?, final?, status, statusAt, conflicting?}
 use Rattle.model.specs.Lists.{any, anyBelow, allBelow, pairBelow, firstIndex, sameBytes, tabulate}
 use Rattle.model.specs.Log.{header, kindOf, sizeOf, decodeAs, recordSize, recordLength, decode}
 use Rattle.model.specs.Model.{Model, Member, Checkpoint, Vote, start, memberAt, checkpointAt, voteAt, memberIndex, placeOf, idHeld, nameHeld, voteHeld}
@@ -99,7 +100,7 @@ pub record MarkedCases : Type 0 where
       ++ line "total 3 named 1 conflict yes"
   session-list : ourList session ≡ 0x46 ∷ 0x46 ∷ 0x50 ∷ 0 ∷ 1 ∷ 0 ∷ 1 ∷ 0 ∷ 2 ∷ 0 ∷ 1 ∷ 0 ∷ 4 ∷ []
   session-list-passes : check session (ourList session) ≡ answer 1
-  header-alone : report headerBytes ≡ line "checkpoint 0 height 0 justified" ++ line "total 0 named 0 conflict no"
+  header-alone : report headerBytes ≡ line "checkpoint 0 height 0 final" ++ line "total 0 named 0 conflict no"
   two-of-three : quorum 2 3 ≡ true
   two-of-four : quorum 2 4 ≡ false
   three-of-four : quorum 3 4 ≡ true
@@ -142,12 +143,20 @@ pub record WrongVersions : Type 0 where
       ++ line "member 2 bond 1 clear"
       ++ line "member 3 bond 1 clear"
       ++ line "total 3 named 0 conflict no"
-  -- a link to a grandchild justifies it and finalizes nothing
+  -- a link to a grandchild justifies it and finalizes nothing; nor is a checkpoint final because its parent, the
+  -- root, or a descendant is; a link to one of two children is enough
   grandchild :
-      report (headerBytes ++ threeMembers ++ checkpoint "A" "R" ++ checkpoint "C" "A" ++ vote 1 "R" 0 "C" 2 ++ vote 2 "R" 0 "C" 2)
-      ≡ line "checkpoint 0 height 0 justified"
-      ++ line "checkpoint 1 height 1 plain"
-      ++ line "checkpoint 2 height 2 justified"
+      report
+      (headerBytes ++ threeMembers ++ line4 ++ checkpoint "D" "C" ++ checkpoint "E" "C"
+      ++ vote 1 "R" 0 "A" 1 ++ vote 2 "R" 0 "A" 1
+      ++ vote 1 "A" 1 "C" 3 ++ vote 2 "A" 1 "C" 3
+      ++ vote 1 "C" 3 "D" 4 ++ vote 2 "C" 3 "D" 4)
+      ≡ line "checkpoint 0 height 0 final"
+      ++ line "checkpoint 1 height 1 justified"
+      ++ line "checkpoint 2 height 2 plain"
+      ++ line "checkpoint 3 height 3 final"
+      ++ line "checkpoint 4 height 4 justified"
+      ++ line "checkpoint 5 height 4 plain"
       ++ line "member 1 bond 1 clear"
       ++ line "member 2 bond 1 clear"
       ++ line "member 3 bond 1 clear"
@@ -156,7 +165,7 @@ pub record WrongVersions : Type 0 where
   evidence-kept : report (headerBytes ++ evidence ++ 9 ∷ []) ≡ line "stopped 4 record 10"
   evidence-shown :
       report (headerBytes ++ evidence)
-      ≡ line "checkpoint 0 height 0 justified"
+      ≡ line "checkpoint 0 height 0 final"
       ++ line "checkpoint 1 height 1 plain"
       ++ line "checkpoint 2 height 2 plain"
       ++ line "checkpoint 3 height 3 plain"
@@ -275,7 +284,7 @@ pub cases : MarkedCases × WrongVersions × RowCases
 unfolding
     row any anyBelow allBelow pairBelow firstIndex tabulate sameBytes beOf beBytes field ascii start append appendAll single memberAt checkpointAt voteAt memberIndex placeOf voteHeld
     child? reached? ancestor? conflict? header kindOf sizeOf decodeAs recordSize recordLength decode decide decideRecord decideMember decideCheckpoint voteBetween voteOf room decideVote andThen heightsAgree bondOutOfRange
-    membersFixed idHeld nameHeld decideEvent after outcomes readings count sum supports quorum carries support supportAt link? justifiedMarks justified? final? status statusAt writeText bufferAfter conflicting?
+    membersFixed idHeld nameHeld decideEvent after outcomes readings count sum supports quorum carries support supportAt link? justifiedMarks justified? sealed? final? status statusAt writeText bufferAfter conflicting?
     breaks? conductFrom conduct broken? violator? insertById byId digits decimal newline statusText checkpointText checkpointLine checkpointLines
     conductText memberText memberLine yesNo totalText totalLine summary stops? stoppedLine refusedLine outcomeLine outcomeLines reportRun reportBody report flatMap
     entries ownVote? checkFrom check chargeOf charges listBytes entryBytes ourList bondOf wellFormed? counts? members? bonds? tree? steps? vote? votes? idTwice? nameTwice? voteTwice?

@@ -1,4 +1,5 @@
--- Justified, final, conflicting finals: source document 002, section 2, with bonds as weights.
+-- Justified, final, conflicting finals: source document 002, section 2, with bonds as weights; for the finality of the
+-- root, source document 001.
 use Prim.Native.Nat.{ℕ, zero, suc}
 use mathlib.Core.List.{List, [], _∷_, _++_}
 use mathlib.Core.Bool.{Bool, false, cond, _&&_, _||_, not}
@@ -6,7 +7,7 @@ use lib.ListN.{length, getD}
 use lib.Dec.{eqb}
 use Rattle.model.specs.Answer.{Answer, answer, row}
 use Rattle.model.specs.Lists.{anyBelow}
-use Rattle.model.specs.Model.{Model, Checkpoint, placeHeld}
+use Rattle.model.specs.Model.{Model, placeHeld}
 use Rattle.model.specs.Support.{link?, Link}
 use Rattle.model.specs.Tree.{Child, Conflict, child?, conflict?}
 use Rattle.model.specs.declared.Status.{Status}
@@ -20,15 +21,17 @@ pub data JustifiedBy (L : ℕ → ℕ → Type 0) : ℕ → Type 0 where
 abbrev pub Justified : Model → ℕ → Type 0
 Justified m p = JustifiedBy (Link m) p
 
--- "Final: justified, with a supermajority link to a direct child."
-pub record FinalBy (cs : List Checkpoint) (L : ℕ → ℕ → Type 0) (p : ℕ) : Type 0 where
-  pub justified : JustifiedBy L p
+-- "with a supermajority link to a direct child": what seals a justified checkpoint
+pub record Sealed (m : Model) (p : ℕ) : Type 0 where
   pub child : ℕ
-  pub direct : Child cs p child
-  pub linked : L p child
+  pub direct : Child (m .checkpoints) p child
+  pub linked : Link m p child
 
-abbrev pub Final : Model → ℕ → Type 0
-Final m p = FinalBy (m .checkpoints) (Link m) p
+-- "Final: justified, with a supermajority link to a direct child." The root is final from the header on, with no link
+-- (request K1): for this one checkpoint source document 001 decides, "The genesis is finalized."
+pub data Final (m : Model) : ℕ → Type 0 where
+  genesis : Final m 0
+  sealed : {p : ℕ} → Justified m p → Sealed m p → Final m p
 
 -- two final checkpoints conflict
 pub record ConflictingFinals (m : Model) : Type 0 where
@@ -50,14 +53,17 @@ justifiedMarks m (suc n) =
 unfoldable pub justified? : Model → ℕ → Bool
 justified? m p = getD (justifiedMarks m (length (m .checkpoints))) p false
 
-unfoldable pub final? : Model → ℕ → Bool
-final? m p = justified? m p && anyBelow (length (m .checkpoints)) (λ c. child? (m .checkpoints) p c && link? m p c)
+unfoldable pub sealed? : Model → ℕ → Bool
+sealed? m p = anyBelow (length (m .checkpoints)) (λ c. child? (m .checkpoints) p c && link? m p c)
 
--- document 01's standing of a place
+unfoldable pub final? : Model → ℕ → Bool
+final? m p = eqb p 0 || (justified? m p && sealed? m p)
+
+-- the standing of a place, by the rules
 unfoldable pub status : Model → ℕ → Status
 status m p = cond (final? m p) FinalStatus (cond (justified? m p) JustifiedStatus PlainStatus)
 
--- the standing of a place: 41 where it isn't held
+-- what is answered of it: 41 where the place isn't held
 unfoldable pub statusAt : Model → ℕ → Answer Status
 statusAt m p = row 41 (not (placeHeld m p)) (answer (status m p))
 

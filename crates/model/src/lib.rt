@@ -8,7 +8,7 @@ pub struct Place(pub u16);
 #[repr(C)]
 pub struct Height(pub u32);
 
-// Document 01's standing of a checkpoint. A final checkpoint is justified too.
+// The standing of a checkpoint. A final checkpoint is justified too.
 pub enum Status {
     Plain,
     Justified,

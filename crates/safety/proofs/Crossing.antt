@@ -1,5 +1,6 @@
--- The combinatorial half, with no bonds: the proof of source document 002, theorem 1, over any relation for the links, anything
--- that makes a justified checkpoint final, and any goal. What two links are good for, once they are found, is the caller's part.
+-- The combinatorial half, with no bonds: the proof of source document 002, theorem 1, over any relation for the links,
+-- anything that may seal a justified checkpoint, and any goal. What two links are good for, once they are found, is the
+-- caller's part.
 use Prim.Native.Nat.{ℕ, _<_, _≤_}
 use native.Mathlib.Nat.{le-refl}
 use native.Mathlib.Omega.{arith}
@@ -67,7 +68,7 @@ module _ (cs : List Checkpoint) (tree : GoodTree cs) (L : ℕ → ℕ → Type 0
     pub crossing : JustifiedBy L b → heightOf cs a ≤ heightOf cs b → (a ≡ b → ⊥) → (Ancestor cs a b → ⊥) → X
     crossing jb high differ apart = walk jb (inl refl) high differ apart
 
-  -- two checkpoints that conflict, each justified and with P, which makes it final: the lower one goes first
+  -- two checkpoints that conflict, each justified and sealed by P: the lower one goes first
   module _ (X : Type 0) (P : ℕ → Type 0)
       (level : (s1 t1 s2 t2 : ℕ) → L s1 t1 → L s2 t2 → (t1 ≡ t2 → ⊥) → heightOf cs t1 ≡ heightOf cs t2 → X)
       (over : (a s t : ℕ) → P a → L s t → heightOf cs s < heightOf cs a → heightOf cs a < heightOf cs t → X) where

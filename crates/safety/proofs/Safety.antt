@@ -6,21 +6,24 @@ use native.Mathlib.Omega.{arith}
 use mathlib.Core.Path.{_≡_, refl, sym, ap, subst₂}
 use mathlib.Core.Logic.{⊎-elim}
 use mathlib.Core.Bool.{Bool, true, _&&_}
+use lib.ListN.{length}
 use Rattle.model.specs.Evidence.{violator?}
 use Rattle.model.specs.Exact.{Violation}
-use Rattle.model.specs.Finality.{Final, ConflictingFinals}
+use Rattle.model.specs.Finality.{Sealed, Final, genesis, sealed, ConflictingFinals}
 use Rattle.model.specs.Model.{Model, Member, Vote, heightOf, start, voteFor}
 use Rattle.model.specs.Run.{after}
 use Rattle.model.specs.Slashing.{Breaks, Condition, other-source, other-target, double, surrounds}
 use Rattle.model.specs.Support.{Link, sum, supports, total}
+use Rattle.model.specs.Tree.{Conflict}
 use Rattle.model.specs.WellFormed.{WellFormed}
 use Rattle.model.proofs.Charges.{true-guilty}
 use Rattle.model.proofs.Checker.{our-list-passes, checker-exact}
 use Rattle.model.proofs.Conduct.{two-votes, true-violator}
+use Rattle.model.proofs.Finality.{final-justified, final-held}
 use Rattle.model.proofs.Lists.{and-left, and-right, all-map, lt-or-ge}
 use Rattle.model.proofs.Run.{reached-good}
 use Rattle.model.proofs.Support.{Held, supports-held, link-carries, link-climbs}
-use Rattle.model.proofs.Tree.{child-higher}
+use Rattle.model.proofs.Tree.{child-higher, conflict-swap, root-in-no-conflict}
 use Rattle.safety.specs.Share.{AccountableSafety, NoInnocentNamed}
 use Rattle.safety.proofs.Crossing.{finals-cross}
 use Rattle.safety.proofs.Weight.{carriers-share, sum-mono}
@@ -52,9 +55,9 @@ module _ (m : Model) (good : WellFormed m) where
         breaks = λ id. record { one-voter = refl; distinct = other-target differ; condition = double (record { equal = level }) };
       }
 
-  -- a link from below a final checkpoint a to above it crosses the link from a to its child: it ends at the child's
+  -- a link from below a sealed checkpoint a to above it crosses the link from a to its child: it ends at the child's
   -- height, or it surrounds that link
-  passing-over : (a s t : ℕ) → Final m a → Link m s t → h s < h a → h a < h t → CrossingLinks m
+  passing-over : (a s t : ℕ) → Sealed m a → Link m s t → h s < h a → h a < h t → CrossingLinks m
   passing-over a s t f l below above =
       record {
         s1 = s;
@@ -79,10 +82,21 @@ module _ (m : Model) (good : WellFormed m) where
           (λ no-higher. double (record { equal = omega (arith, child-above) }))
           (lt-or-ge (h (f .child)) (h t))
 
+  -- a final checkpoint in a conflict isn't the root, which conflicts with nothing held: it is sealed
+  conflict-seals : {a b : ℕ} → Final m a → b < length (m .checkpoints) → Conflict (m .checkpoints) a b → Sealed m a
+  conflict-seals {b = b} genesis inside c = absurd (root-in-no-conflict (m .checkpoints) (good .tree) b inside c)
+  conflict-seals (sealed j f) inside c = f
+
   crossing-links : ConflictingFinals m → CrossingLinks m
   crossing-links c =
-      finals-cross (m .checkpoints) (good .tree) (Link m) (link-climbs m good) (CrossingLinks m) (Final m) same-height passing-over
-      (c .one) (c .other) (c .one-final .justified) (c .one-final) (c .other-final .justified) (c .other-final) (c .conflict)
+      finals-cross (m .checkpoints) (good .tree) (Link m) (link-climbs m good)
+      (CrossingLinks m) (Sealed m) same-height passing-over
+      (c .one) (c .other)
+      (final-justified (c .one-final))
+      (conflict-seals (c .one-final) (final-held m good (c .other-final)) (c .conflict))
+      (final-justified (c .other-final))
+      (conflict-seals (c .other-final) (final-held m good (c .one-final)) (conflict-swap (c .conflict)))
+      (c .conflict)
 
 -- who supports both of two crossing links holds two votes that break
 supports-both : (m : Model) (x : Member) (c : CrossingLinks m) →

@@ -22,10 +22,6 @@ module _ (p : ℕ → Bool) where
   unfolding lastBelow
   last-step b n e = rw e
 
-  pub last-none : 0 ≡ lastBelow 0 p
-  unfolding lastBelow
-  last-none = refl
-
   pub last-next : (b : Bool) (n : ℕ) → p n ≡ b → lastBelow (n + 1) p ≡ cond b (n + 1) (lastBelow n p)
   last-next b n e = rw add-one (last-step b n e)
 

@@ -1,11 +1,12 @@
--- One pass over the places: which are justified, and which a supermajority link joins to a direct child.
-use Prim.Native.Nat.{ℕ, _+_, _<_, _≤_}
+-- One pass over the places: which are justified, and which are the root or joined by a supermajority link to a direct
+-- child.
+use Prim.Native.Nat.{ℕ, zero, suc, _+_, _<_, _≤_}
 use native.Mathlib.Omega.{arith}
 use native.Mathlib.Numerals.{add-one}
 use mathlib.Core.Path.{_≡_, refl, sym, ap, ap₂, _∙_, subst}
 use mathlib.Core.List.{List}
-use mathlib.Core.Bool.{Bool, true, false, _&&_, _||_, or-false}
-use borrow.Author.Tests.{eq-eqb, eqb-true, eqb-false, lt-ltb}
+use mathlib.Core.Bool.{Bool, true, false, _&&_, _||_, or-false, or-assoc}
+use borrow.Author.Tests.{eq-eqb, eqb-true, eqb-false, ne-eqb, lt-ltb}
 use lib.Dec.{eqb}
 use lib.ListN.{length, getD, set, replicate, length-set, length-replicate, getD-replicate}
 use lib.Seq.{getD-set-same, getD-set-other}
@@ -13,30 +14,31 @@ use Rattle.model.specs.Lists.{anyBelow}
 use Rattle.model.specs.Model.{Model, parentOf}
 use Rattle.model.specs.Support.{link?}
 use Rattle.model.specs.Tree.{child?}
-use Rattle.model.specs.Finality.{root, link, Justified, justified?}
+use Rattle.model.specs.Finality.{root, link, Justified, justified?, sealed?}
 use Rattle.model.specs.WellFormed.{WellFormed}
 use Rattle.model.proofs.Lists.{both, and-left, and-right, Below, below-found, found-below}
 use Rattle.model.proofs.Tree.{ancestor-later}
 use Rattle.model.proofs.Support.{link-climbs}
-use Rattle.model.proofs.Finality.{justified-true, true-justified}
+use Rattle.model.proofs.Finality.{joins, justified-true, true-justified}
 use Rattle.search.proofs.Below.{same-test}
 use Rattle.search.proofs.Filled.{Filled, filled-more}
 use Rattle.search.proofs.Pointwise.{any-same}
 use Rattle.standing.specs.Answers.{IsAnalysis}
 
 -- s is justified, and a supermajority link leads from it to t
-abbrev pub leads : Model → ℕ → ℕ → Bool
+abbrev leads : Model → ℕ → ℕ → Bool
 leads m t s = justified? m s && link? m s t
 
--- c is a direct child of p, and a supermajority link leads from p to it
-abbrev pub joins : Model → ℕ → ℕ → Bool
-joins m p c = child? (m .checkpoints) p c && link? m p c
+-- p is the root, or joined to a direct child below t
+abbrev finalizes : Model → ℕ → ℕ → Bool
+finalizes m t p = eqb p 0 || anyBelow t (joins m p)
 
--- the places below t are marked: each as justified or not, and each as joined to a direct child below t or not
+-- the places below t are marked as justified or not, and every place as the root or joined to a direct child below t,
+-- or not
 pub record Marked (m : Model) (justified finalizing : List Bool) (t : ℕ) : Type 0 where
   pub marks : Filled false 512 (justified? m) justified t
   pub long : length finalizing ≡ 512
-  pub finals : (p : ℕ) → p < 512 → getD finalizing p false ≡ anyBelow t (joins m p)
+  pub finals : (p : ℕ) → p < 512 → getD finalizing p false ≡ finalizes m t p
 
 module _ (m : Model) (good : WellFormed m) where
   -- a place other than the root is justified by a link from a justified place below it
@@ -59,20 +61,30 @@ module _ (m : Model) (good : WellFormed m) where
       back : anyBelow t (leads m t) ≡ true → justified? m t ≡ true
       back e = from (below-found t (leads m t) e)
 
-  pub marked-root : Marked m (set (replicate 512 false) 0 true) (replicate 512 false) 1
+  pub marked-root : Marked m (set (replicate 512 false) 0 true) (set (replicate 512 false) 0 true) 1
   unfolding anyBelow child?
   marked-root =
       record {
         marks = record {
-          long = length-set (replicate 512 false) 0 true ∙ length-replicate 512 false;
+          long = long;
           each = λ i h.
               let e : 0 ≡ i = omega arith in
               subst (λ (k : ℕ). getD (set (replicate 512 false) 0 true) k false ≡ justified? m k) e
               (sym (true-justified m good 0 root));
         };
-        long = length-replicate 512 false;
-        finals = λ p h. getD-replicate 512 p false false h;
+        long = long;
+        finals = first;
       }
+    where
+      long : length (set (replicate 512 false) 0 true) ≡ 512
+      long = length-set (replicate 512 false) 0 true ∙ length-replicate 512 false
+
+      first : (p : ℕ) → p < 512 → getD (set (replicate 512 false) 0 true) p false ≡ finalizes m 1 p
+      first zero h = refl
+      first (suc p) h =
+          rw (ne-eqb (suc p) 0 (λ e. omega arith))
+          (getD-set-other (replicate 512 false) 0 (suc p) true false (λ e. omega arith)
+          ∙ getD-replicate 512 (suc p) false false h)
 
   -- a place's test for a direct child is that it is the parent
   held-child : (p t : ℕ) → 0 < t → t < length (m .checkpoints)
@@ -114,17 +126,18 @@ module _ (m : Model) (good : WellFormed m) where
           (held-child p t h l ∙ ap (λ (q : ℕ). eqb q p) (sym is) ∙ e)
 
       more : (p : ℕ) → p < 512 → (b : Bool) → eqb parent p ≡ b
-          → getD (set finalizing parent new) p false ≡ anyBelow (t + 1) (joins m p)
+          → getD (set finalizing parent new) p false ≡ finalizes m (t + 1) p
       more p w true e =
-          subst (λ (q : ℕ). getD (set finalizing parent new) q false ≡ anyBelow (t + 1) (joins m q))
+          subst (λ (q : ℕ). getD (set finalizing parent new) q false ≡ finalizes m (t + 1) q)
           (eqb-true parent p e)
           (getD-set-same finalizing parent new false (omega (arith, so .long))
           ∙ ap₂ _||_ (so .finals parent inside) (s ∙ links parent inside)
-          ∙ sym (next parent true (eq-eqb parent parent refl)))
+          ∙ or-assoc (eqb parent 0) (anyBelow t (joins m parent)) (link? m parent t)
+          ∙ ap (λ (b : Bool). eqb parent 0 || b) (sym (next parent true (eq-eqb parent parent refl))))
       more p w false e =
           getD-set-other finalizing parent p new false (λ q. eqb-false parent p e (sym q))
           ∙ so .finals p w
-          ∙ sym (next p false e ∙ or-false (anyBelow t (joins m p)))
+          ∙ ap (λ (b : Bool). eqb p 0 || b) (sym (next p false e ∙ or-false (anyBelow t (joins m p))))
 
   pub marked-all : {justified finalizing : List Bool} {n t : ℕ}
       → length (m .checkpoints) ≡ n
@@ -133,10 +146,11 @@ module _ (m : Model) (good : WellFormed m) where
       → t ≤ n
       → Marked m justified finalizing t
       → IsAnalysis m (record { justified = justified; finalizing = finalizing })
+  unfolding sealed?
   marked-all {justified} {finalizing} {n} {t} e few low high so =
       record {
         justified = λ p h. so .marks .each p (omega arith);
         finalizing = λ p h.
             let q : t ≡ length (m .checkpoints) = omega arith in
-            so .finals p (omega arith) ∙ ap (λ (k : ℕ). anyBelow k (joins m p)) q;
+            so .finals p (omega arith) ∙ ap (λ (k : ℕ). finalizes m k p) q;
       }

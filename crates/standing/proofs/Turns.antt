@@ -30,7 +30,7 @@ pub record Turn (w : Witness) (b : Ballots) (justified finalizing : List Bool) (
   pub marked : Marked (modelOf w) justified finalizing t
 
 pub turn-first : {w : Witness} {b : Ballots} → Ready w b
-    → Turn w b (set (replicate 512 false) 0 true) (replicate 512 false) 1
+    → Turn w b (set (replicate 512 false) 0 true) (set (replicate 512 false) 0 true) 1
 turn-first {w} r =
     let good = r .sound .good in
     record {

@@ -1,5 +1,5 @@
-// Which places of a sound state are justified, which of them have a supermajority link to a direct child, and so the
-// standing of each.
+// Which places of a sound state are justified, which are the root or have a supermajority link to a direct child, and
+// so the standing of each.
 use model::MAX_CHECKPOINTS;
 use model::Place;
 use model::Status;
@@ -17,7 +17,8 @@ ghost use Rattle.state.specs.Sound.{Sound};
 ghost use Rattle.state.specs.State.{modelOf};
 ghost use Rattle.standing.specs.Answers.{IsAnalysis};
 
-// For each place whether it is justified, and whether a supermajority link leads from it to a direct child.
+// For each place whether it is justified, and whether that would make it final: it is the root, or a supermajority link
+// leads from it to a direct child.
 pub struct Analysis {
     pub justified: [bool; MAX_CHECKPOINTS],
     pub finalizing: [bool; MAX_CHECKPOINTS],
@@ -41,6 +42,7 @@ pub fn statuses(w: Witness) -> Analysis
     let mut justified = [false; MAX_CHECKPOINTS];
     let mut finalizing = [false; MAX_CHECKPOINTS];
     justified[0] = true;
+    finalizing[0] = true;
     let mut t: usize = 1;
     while t < places {
         let tally = votes::gather(&who, sources, &next, head[t]);

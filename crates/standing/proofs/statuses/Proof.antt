@@ -30,6 +30,9 @@ prepare-requires c κs = search needs
 array-write-justified : tie.Need-array-write-justified Inv-loop μ-loop
 array-write-justified c = omega arith
 
+array-write-finalizing : tie.Need-array-write-finalizing Inv-loop μ-loop
+array-write-finalizing c = omega arith
+
 loop-holds : tie.Need-loop-holds Inv-loop μ-loop
 loop-holds c = turn-first (c .before .before .before .before .prepare .ensures)
 
@@ -81,8 +84,8 @@ array-read-finalizing c = search (needs, turn-parent)
 carries-requires : tie.Need-carries-requires Inv-loop μ-loop
 carries-requires c κs = search (needs, ready-bonds, ready-quota)
 
-array-write-finalizing : tie.Need-array-write-finalizing Inv-loop μ-loop
-array-write-finalizing c = search (needs, turn-parent)
+array-write-finalizing-2 : tie.Need-array-write-finalizing-2 Inv-loop μ-loop
+array-write-finalizing-2 c = search (needs, turn-parent)
 
 add-t : tie.Need-add-t Inv-loop μ-loop
 add-t c = omega arith
@@ -110,6 +113,7 @@ statuses-spec =
     μ-loop
     prepare-requires
     array-write-justified
+    array-write-finalizing
     loop-holds
     slice-aggregate-gather
     slice-aggregate-gather-2
@@ -127,7 +131,7 @@ statuses-spec =
     array-copy-out-v
     array-read-finalizing
     carries-requires
-    array-write-finalizing
+    array-write-finalizing-2
     add-t
     loop-less
     loop-again

@@ -1,26 +1,26 @@
--- `finality::finals::last_final` meets its contract. The loop's invariant: `last` is the last final place passed.
+-- `finality::finals::last_final` meets its contract. The loop's invariant: `last` is the greatest final place passed.
 -- Assumes nothing.
-use Prim.Native.Nat.{_≤_, _-_}
+use Prim.Native.Nat.{_+_, _≤_, _-_}
 use native.Mathlib.Omega.{arith}
 use native.Mathlib.Nat.{le-antisymm}
 use mathlib.Core.Path.{_≡_, sym, ap, _∙_}
 use mathlib.Core.Logic.{⊎-elim}
 use mathlib.Core.Bool.{true, false}
+use Rattle.model.specs.declared.Place.{Place}
 use Rattle.search.specs.Chains.{lastBelow}
-use Rattle.search.proofs.Chains.{last-next, last-none}
+use Rattle.search.proofs.Chains.{last-next}
 use Rattle.standing.specs.Answers.{isFinal}
-use Rattle.finality.specs.Answers.{lastOf}
 use Rattle.finality.proofs.finals.last_final.Statement.{statement}
 use Rattle.finality.proofs.finals.last_final.Tie as tie
 
 abbrev Inv-loop : tie.InvT-loop
-Inv-loop places a last₀ p₀ last p = (p ≤ places) × (lastOf last ≡ lastBelow p (isFinal a))
+Inv-loop places a last₀ p₀ last p = (p ≤ places) × (last .0 + 1 ≡ lastBelow p (isFinal a))
 
 abbrev μ-loop : tie.MeasureT-loop
 μ-loop places a last₀ p₀ last p = places - p
 
 loop-holds : tie.Need-loop-holds Inv-loop μ-loop
-loop-holds c = (omega arith, last-none _)
+loop-holds c = (omega arith, sym (last-next _ true 0 (c .pre .2)))
 
 element-copy-out-fin : tie.Need-element-copy-out-fin Inv-loop μ-loop
 element-copy-out-fin c = omega arith
@@ -43,8 +43,9 @@ loop-again c =
     let a = c .before .before .before .before .before .args .t1 in (
       omega arith,
       ⊎-elim
-          (λ w. ap lastOf (w .1) ∙ sym (last-next (isFinal a) true (at .p) (w .0 .taken)))
-          (λ w. ap lastOf (w .1) ∙ at .inv .1 ∙ sym (last-next (isFinal a) false (at .p) (w .0 .left)))
+          (λ w. ap (λ (q : Place). q .0 + 1) (w .1) ∙ sym (last-next (isFinal a) true (at .p) (w .0 .taken)))
+          (λ w.
+          ap (λ (q : Place). q .0 + 1) (w .1) ∙ at .inv .1 ∙ sym (last-next (isFinal a) false (at .p) (w .0 .left)))
           (c .if1 .came),
     )
 
