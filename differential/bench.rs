@@ -5,6 +5,8 @@
 mod library;
 #[allow(dead_code)]
 mod logs;
+#[allow(dead_code)]
+mod paper;
 mod plain;
 #[allow(dead_code)]
 mod random;
@@ -77,6 +79,8 @@ fn main() {
     assert!(plain::read_log(&mut place, &full) == 0 && *place == held && plain::is_sound(&held) && states::is_sound(&held));
     let mut buffer = vec![0; 1000];
     let mut lines = vec![0; 65536];
+    let mut sheets = vec![0; paper::LONGEST];
+    assert!(held.write_paper(&mut sheets) == Ok(paper::LONGEST as u64) && sheets == hashed.paper());
 
     let mut timed: Vec<Timed> = vec![
         ("ours: log", Box::new(|| done(nothing.replay(black_box(nearly))))),
@@ -96,6 +100,8 @@ fn main() {
         ("hashed: check", Box::new(|| done(black_box(&hashed).check(&list)))),
         ("ours: list", Box::new(|| done(black_box(&held).write_list(&mut buffer)))),
         ("hashed: list", Box::new(|| done(black_box(&hashed).list()))),
+        ("ours: paper", Box::new(|| done(black_box(&held).write_paper(&mut sheets)))),
+        ("hashed: paper", Box::new(|| done(black_box(&hashed).paper()))),
         ("ours: one record", Box::new(|| done(black_box(&almost).read(&full, nearly.len())))),
         ("ours: row 40, one vote less", Box::new(|| done(black_box(&almost).is_sound()))),
     ];
@@ -116,5 +122,6 @@ fn main() {
     line("all standings, less row 40", t("ours: standing") - t("ours: row 40"), "the reference", t("hashed: standings"));
     line("a list's check, row 40 with it", t("ours: check"), "the reference", t("hashed: check") + t("hashed: row 40"));
     line("our list, less row 40", t("ours: list") - t("ours: row 40"), "the reference", t("hashed: list"));
+    line("the board paper, less row 40", t("ours: paper") - t("ours: row 40"), "the reference", t("hashed: paper"));
     println!("a record by a call of its own: {:.2} of which row 40 {:.2}", t("ours: one record"), t("ours: row 40, one vote less"));
 }

@@ -1,6 +1,7 @@
 // The library beside the reference: everything that is asked of a log, of a list of charges and of a state. A difference
 // is told with both answers.
-use crate::library::{self, REFUSED};
+use crate::library::{self, Answer, REFUSED};
+use crate::paper;
 use crate::random::Random;
 use crate::reference::{self, Reading, Refusal, Status, HEADER};
 use crate::report;
@@ -15,6 +16,19 @@ pub fn same<T: PartialEq + Debug>(what: &str, library: T, reference: T) -> Same 
         return Ok(());
     }
     Err(format!("{what}\n  library:   {library:?}\n  reference: {reference:?}"))
+}
+
+// What a lent buffer holds before a call.
+pub const UNWRITTEN: u8 = 0xa5;
+
+// Two buffers of one length. They may be long, so a difference is told by what stands near the first byte that differs.
+fn same_bytes(what: &str, library: &[u8], reference: &[u8]) -> Same {
+    let Some(at) = library.iter().zip(reference).position(|(a, b)| a != b) else {
+        return Ok(());
+    };
+    let near = at.saturating_sub(64)..library.len().min(at + 65);
+    let (library, reference) = (library[near.clone()].escape_ascii(), reference[near].escape_ascii());
+    Err(format!("{what}, byte {at}\n  library:   {library}\n  reference: {reference}"))
 }
 
 // Logs with more records, and states with more votes, than these are asked about in samples.
@@ -131,7 +145,7 @@ fn status_number(s: Status) -> u64 {
     }
 }
 
-// Standings, backings, the conflict answer, our list and its check.
+// Standings, backings, the conflict answer, our list and its check, the board paper.
 fn answers(w: &library::Witness, r: &reference::Witness, random: &mut Random, tally: &mut Tally) -> Same {
     let count = r.checkpoints.len();
     let samples = if r.votes.len() > MANY_VOTES { 3 } else { 12 };
@@ -147,7 +161,8 @@ fn answers(w: &library::Witness, r: &reference::Witness, random: &mut Random, ta
         backing(w, r, random)?;
     }
     same("conflict", w.conflict(), Ok(u64::from(r.conflict())))?;
-    our_list(w, r, random, tally)
+    our_list(w, r, random, tally)?;
+    paper(w, r, random, tally)
 }
 
 // The backing of a link that has votes, or of any two places, one of them maybe not held.
@@ -167,18 +182,44 @@ fn backing(w: &library::Witness, r: &reference::Witness, random: &mut Random) ->
     same(&format!("backing of {s} to {t}"), w.support(s as u16, t as u16), expected)
 }
 
-// Our list into buffers of several lengths, every byte of them; and that it passes.
-fn our_list(w: &library::Witness, r: &reference::Witness, random: &mut Random, tally: &mut Tally) -> Same {
-    let length = r.list().len();
-    for room in [length, length - 1, random.below(length), length + random.within(1, 40)] {
-        let mut ours = vec![0xa5; room];
+// A text that a call writes into a lent buffer, or the refusal that is met before any text: the answer, and every byte
+// of a buffer of each length.
+fn lent(
+    what: &str,
+    text: Result<&[u8], Refusal>,
+    rooms: &[usize],
+    tally: &mut Tally,
+    write: impl Fn(&mut [u8]) -> Answer<u64>,
+) -> Same {
+    for room in rooms {
+        let mut ours = vec![UNWRITTEN; *room];
         let mut theirs = ours.clone();
-        let expected = r.write_list(&mut theirs).map(|n| n as u64);
+        let expected = text.and_then(|t| reference::write_text(t, &mut theirs)).map(|n| n as u64);
         tally.answer(&expected);
-        same(&format!("our list into {room} bytes"), w.write_list(&mut ours), expected)?;
-        same("the buffer", ours, theirs)?;
+        same(&format!("{what} into {room} bytes"), write(&mut ours), expected)?;
+        same_bytes(&format!("{what}, the buffer of {room} bytes"), &ours, &theirs)?;
     }
-    list(w, r, &r.list(), tally)
+    Ok(())
+}
+
+// Just enough room for a text, a byte less, none, any less, and more.
+fn rooms(text: &[u8], random: &mut Random) -> [usize; 5] {
+    let length = text.len();
+    [length, length - 1, 0, random.below(length), length + random.within(1, 40)]
+}
+
+// Our list, and that it passes.
+fn our_list(w: &library::Witness, r: &reference::Witness, random: &mut Random, tally: &mut Tally) -> Same {
+    let ours = r.list();
+    lent("our list", Ok(&ours), &rooms(&ours, random), tally, |buffer| w.write_list(buffer))?;
+    list(w, r, &ours, tally)
+}
+
+// The board paper, and what it had to show.
+fn paper(w: &library::Witness, r: &reference::Witness, random: &mut Random, tally: &mut Tally) -> Same {
+    let paper = r.paper();
+    tally.paper(r);
+    lent("the paper", Ok(&paper), &rooms(&paper, random), tally, |buffer| w.write_paper(buffer))
 }
 
 // One list of charges against one state.
@@ -189,15 +230,24 @@ pub fn list(w: &library::Witness, r: &reference::Witness, list: &[u8], tally: &m
     same(&format!("check of {list:02x?}"), w.check(list), expected)
 }
 
-// Row 40 on one state; where it applies, every call says so and leaves everything as it was.
-pub fn state(w: &library::Witness, log: &[u8], list: &[u8], tally: &mut Tally) -> Same {
+// Row 40 on one state.
+pub fn state(w: &library::Witness, log: &[u8], list: &[u8], random: &mut Random, tally: &mut Tally) -> Same {
     let sound = states::is_sound(w);
     tally.state(sound);
     same("row 40", w.is_sound(), sound)?;
-    if sound {
-        return Ok(());
-    }
-    let mut buffer = [0xa5; 1000];
+    if sound { sound_state(w, random, tally) } else { unsound_state(w, log, list, tally) }
+}
+
+// Where row 40 does not apply, the answers are those on a log that has all that the state holds.
+fn sound_state(w: &library::Witness, random: &mut Random, tally: &mut Tally) -> Same {
+    let r = reference::read_log(&states::log_of(w)).witness;
+    held(w, &r)?;
+    answers(w, &r, random, tally)
+}
+
+// Where row 40 applies, every call says so and leaves everything as it was.
+fn unsound_state(w: &library::Witness, log: &[u8], list: &[u8], tally: &mut Tally) -> Same {
+    let mut buffer = [UNWRITTEN; 1000];
     let read = w.read(log, HEADER);
     same("reading", (read.refused, read.taken, read.next, read.witness == *w), (40, 0, HEADER, true))?;
     let fed = w.feed(7, log, HEADER, &mut buffer);
@@ -208,6 +258,9 @@ pub fn state(w: &library::Witness, log: &[u8], list: &[u8], tally: &mut Tally) -
     same("backing", w.support(0, 65535), Err(40))?;
     same("conflict", w.conflict(), Err(40))?;
     same("check", w.check(list), Err(40))?;
-    same("our list", w.write_list(&mut buffer), Err(40))?;
-    same("the buffer", buffer, [0xa5; 1000])
+    same("the buffer", buffer, [UNWRITTEN; 1000])?;
+    // row 40 comes before row 60
+    let rooms = [0, 1000, paper::LONGEST];
+    lent("our list", Err(40), &rooms, tally, |buffer| w.write_list(buffer))?;
+    lent("the paper", Err(40), &rooms, tally, |buffer| w.write_paper(buffer))
 }

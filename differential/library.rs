@@ -78,6 +78,7 @@ extern "C" {
     fn ffw_support(w: Witness, source: Place, target: Place) -> Backed;
     fn ffw_conflict(w: Witness) -> Answered;
     fn ffw_list(w: Witness, buffer: *mut u8, length: usize) -> Answered;
+    fn ffw_paper(w: Witness, buffer: *mut u8, length: usize) -> Answered;
     fn ffw_check(w: Witness, list: *const u8, length: usize) -> Answered;
     fn ffw_open(w: Witness, log: *const u8, length: usize, last: bool, buffer: *mut u8, room: usize) -> Piece;
     fn ffw_feed(w: Witness, records: u64, log: *const u8, length: usize, at: usize, buffer: *mut u8, room: usize) -> Piece;
@@ -167,6 +168,10 @@ impl Witness {
 
     pub fn write_list(&self, buffer: &mut [u8]) -> Answer<u64> {
         answer(unsafe { ffw_list(*self, buffer.as_mut_ptr(), buffer.len()) })
+    }
+
+    pub fn write_paper(&self, buffer: &mut [u8]) -> Answer<u64> {
+        answer(unsafe { ffw_paper(*self, buffer.as_mut_ptr(), buffer.len()) })
     }
 
     pub fn check(&self, list: &[u8]) -> Answer<u64> {

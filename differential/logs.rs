@@ -47,6 +47,7 @@ pub fn log(seed: u64, number: usize) -> Vec<u8> {
         85..=89 => m.many_members(),
         90..=92 => m.long_tree(),
         93 => m.many_votes(),
+        94..=96 => m.rivals(),
         _ => m.late_source(),
     }
     m.damage();
@@ -449,12 +450,14 @@ impl Maker {
         }
     }
 
-    // The table of checkpoints, to its end and past it.
+    // The table of checkpoints, to its end and past it; and with the root just as many as fill a page of the board's
+    // paper, one more, and two pages.
     fn long_tree(&mut self) {
         self.begin();
         let members = self.random.within(1, 5);
         self.members(members);
-        let count = self.random.pick(&[200, MAX_CHECKPOINTS - 1, MAX_CHECKPOINTS, MAX_CHECKPOINTS + 2]);
+        let full = MAX_CHECKPOINTS;
+        let count = self.random.pick(&[47, 48, 95, 200, full - 1, full, full + 2]);
         self.tree(count);
         let votes = self.random.below(100);
         self.votes(votes);
@@ -488,6 +491,28 @@ impl Maker {
         self.random.shuffle(&mut links);
         for (s, t) in links {
             self.push(s, t);
+        }
+    }
+
+    // Links into each checkpoint from its ancestors, which vie with each other: one member has the bond of two. The
+    // first member alone is a quorum, and justifies some of them.
+    fn rivals(&mut self) {
+        self.begin();
+        let unit = self.random.pick(&[1, MAX_BOND / 100]);
+        for (id, units) in [(1, 100), (2, 2), (3, 1), (4, 1)] {
+            self.member(id, units * unit);
+        }
+        let count = self.random.within(2, 10);
+        self.tree(count);
+        let behind: [&[u16]; 8] = [&[], &[], &[2], &[2], &[3, 4], &[3, 4], &[1, 2], &[1, 3, 4]];
+        for target in 1..self.tree.len() {
+            let mut above = self.ancestors(target);
+            self.random.shuffle(&mut above);
+            for source in above {
+                for id in self.random.pick(&behind) {
+                    self.vote(*id, source, target);
+                }
+            }
         }
     }
 

@@ -6,6 +6,7 @@ mod library;
 mod lists;
 #[allow(dead_code)]
 mod logs;
+mod paper;
 mod random;
 mod reference;
 mod report;
@@ -64,8 +65,9 @@ fn compare_states(seed: u64, count: usize, tally: &mut Tally) {
     for number in 0..count {
         let log = logs::log_with_charges(seed, number);
         let mut w = Box::new(library::Witness::nothing().replay(&log).witness);
-        states::disturb(&mut Random::of_case(seed, 6, number as u64), &mut w);
-        if let Err(difference) = compare::state(&w, &log, b"FFP\x00\x01\x00\x00", tally) {
+        let mut random = Random::of_case(seed, 6, number as u64);
+        states::disturb(&mut random, &mut w);
+        if let Err(difference) = compare::state(&w, &log, b"FFP\x00\x01\x00\x00", &mut random, tally) {
             fail(seed, "state", number, &difference);
         }
     }

@@ -33,6 +33,13 @@ pub enum Status {
     Final,
 }
 
+impl Status {
+    // Final checkpoints count as justified too.
+    pub fn is_justified(self) -> bool {
+        self != Status::Plain
+    }
+}
+
 // The members behind a link, each once; the sum of their bonds; whether that is a supermajority.
 #[derive(Clone, Copy, PartialEq, Eq, Debug)]
 pub struct Backing {
@@ -59,7 +66,8 @@ pub struct Witness {
     pub checkpoints: Vec<Checkpoint>,
     pub votes: Vec<Vote>,
     cast: HashSet<Vote>,
-    links: HashMap<(usize, usize), Vec<u16>>,
+    // the members behind each link, by its source and its target
+    pub links: HashMap<(usize, usize), Vec<u16>>,
 }
 
 // A log read to its end or its stop: the records that were refused, and the refusal and the record that stopped it. Where
@@ -68,6 +76,13 @@ pub struct Reading {
     pub witness: Witness,
     pub refused: Vec<(usize, Refusal)>,
     pub stopped: Option<(Refusal, usize)>,
+}
+
+impl Reading {
+    // What is said of a log that was stopped.
+    pub fn stop_line(&self) -> Option<String> {
+        self.stopped.map(|(number, record)| format!("stopped {number} record {record}\n"))
+    }
 }
 
 // What a record says.
@@ -360,16 +375,6 @@ impl Witness {
         list
     }
 
-    // Row 60, else our list at the buffer's start, and its length.
-    pub fn write_list(&self, buffer: &mut [u8]) -> Result<usize, Refusal> {
-        let list = self.list();
-        if buffer.len() < list.len() {
-            return Err(60);
-        }
-        buffer[..list.len()].copy_from_slice(&list);
-        Ok(list.len())
-    }
-
     // Rows 50 to 57, else the sum of the named bonds.
     pub fn check(&self, list: &[u8]) -> Result<u64, Refusal> {
         if list.len() < 7 || list.len() as u64 != 7 + 6 * integer(&list[5..7]) {
@@ -414,7 +419,16 @@ pub fn is_supermajority(sum: u64, total: u64) -> bool {
     total > 0 && 3 * sum >= 2 * total
 }
 
-fn word(status: Status) -> &'static str {
+// Row 60, else a text at the start of the lent buffer, and its length.
+pub fn write_text(text: &[u8], buffer: &mut [u8]) -> Result<usize, Refusal> {
+    if buffer.len() < text.len() {
+        return Err(60);
+    }
+    buffer[..text.len()].copy_from_slice(text);
+    Ok(text.len())
+}
+
+pub fn word(status: Status) -> &'static str {
     match status {
         Status::Plain => "plain",
         Status::Justified => "justified",
@@ -432,10 +446,7 @@ pub fn report_of(reading: &Reading) -> String {
     for (record, number) in &reading.refused {
         text += &format!("refused {record} number {number}\n");
     }
-    match reading.stopped {
-        Some((number, record)) => text += &format!("stopped {number} record {record}\n"),
-        None => text += &standing(&reading.witness),
-    }
+    text += &reading.stop_line().unwrap_or_else(|| standing(&reading.witness));
     text
 }
 

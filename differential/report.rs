@@ -1,6 +1,6 @@
 // The report by the library: the log is fed in pieces, cut anywhere, into buffers with much room or little, and the text
 // is that of the reference's report.
-use crate::compare::{same, Same};
+use crate::compare::{same, Same, UNWRITTEN};
 use crate::library::{Piece, Witness, ENDED, FULL, OUT_OF_NUMBERS, WANTS};
 use crate::random::Random;
 use crate::reference::{self, Reading, HEADER};
@@ -8,7 +8,6 @@ use crate::reference::{self, Reading, HEADER};
 // No line of a record has more bytes, and no summary.
 const LINE: usize = 64;
 const SUMMARY: usize = 65536;
-const UNWRITTEN: u8 = 0xa5;
 
 pub fn compare(log: &[u8], before: &Witness, reading: &Reading, random: &mut Random) -> Same {
     let text = fed(log, before, random)?;

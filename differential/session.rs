@@ -1,4 +1,5 @@
-// The cases that document 01 works out, against the reference: its own check, made before anything is compared with it.
+// The cases that document 01 works out, and three papers worked out by hand, against the reference: its own check, made
+// before anything is compared with it.
 use crate::reference::{self, is_supermajority};
 
 const REPORT: &str = "refused 15 number 35
@@ -14,6 +15,25 @@ total 3 named 1 conflict yes
 ";
 
 const LIST: &[u8] = b"\x46\x46\x50\x00\x01\x00\x01\x00\x02\x00\x01\x00\x04";
+
+// The rows of the session's paper.
+const SESSION_ROWS: [&str; 5] = [
+    "    0           0  final             0                         0",
+    "    1           1  final             2                         2",
+    "    2           1  final             2                         2",
+    "    3           2  justified         2                         2",
+    "    4           2  justified         2                         2",
+];
+
+// The rows of the paper of `rivals`.
+const RIVAL_ROWS: [&str; 6] = [
+    "    0           0  final             0                         0",
+    "    1           1  justified         2                         6",
+    "    2           2  plain             1                         2",
+    "    3           3  plain             1                         1",
+    "    4           4  plain             0                         0",
+    "    5           5  plain             1                         4",
+];
 
 fn header(root: u8) -> Vec<u8> {
     let mut log = b"FFW\x00\x01".to_vec();
@@ -61,6 +81,45 @@ pub fn worked() -> Vec<u8> {
     log
 }
 
+// A chain with several links into a checkpoint; the quorum is 6 of 8, and places are heights. Into 2 those from 0 and 1
+// have equal bonds, into 3 and 4 the plain 2 has the largest, and into 5 the higher source.
+fn rivals() -> Vec<u8> {
+    let mut log = header(0);
+    for (id, bond) in [(1, 4), (2, 2), (3, 1), (4, 1)] {
+        member(&mut log, id, bond);
+    }
+    for height in 1..=5 {
+        checkpoint(&mut log, height, height - 1);
+    }
+    let links: [(&[u16], u8, u8); 8] = [
+        (&[1, 2], 0, 1),
+        (&[3, 4], 1, 2),
+        (&[2], 0, 2),
+        (&[1, 2, 3, 4], 2, 3),
+        (&[3], 1, 3),
+        (&[1], 2, 4),
+        (&[3], 0, 5),
+        (&[1], 1, 5),
+    ];
+    for (ids, source, target) in links {
+        for id in ids {
+            vote(&mut log, *id, (source, source.into()), (target, target.into()));
+        }
+    }
+    log
+}
+
+// A paper of one page with these rows.
+fn one_page(rows: &[&str]) -> String {
+    let mut lines = vec![" ".repeat(64); 50];
+    lines[0].replace_range(..6, "page 1");
+    for (line, row) in lines[1..].iter_mut().zip(rows) {
+        *line = row.to_string();
+    }
+    lines[49] = "-".repeat(64);
+    lines.join("\n") + "\n"
+}
+
 // Whether two votes of one member, on one chain, with these heights of source and target, are charged.
 fn charged(first: (u32, u32), second: (u32, u32)) -> bool {
     let mut log = header(0);
@@ -74,8 +133,16 @@ fn charged(first: (u32, u32), second: (u32, u32)) -> bool {
     reference::read_log(&log).witness.charges().len() == 1
 }
 
-// Every case that the document marks, the header alone as request K1 words it.
+fn check_papers() {
+    for (log, rows) in [(worked(), &SESSION_ROWS[..]), (rivals(), &RIVAL_ROWS), (header(0), &SESSION_ROWS[..1])] {
+        let paper = reference::read_log(&log).witness.paper();
+        assert_eq!(String::from_utf8_lossy(&paper), one_page(rows));
+    }
+}
+
+// Every case that the document marks, the header alone as request K1 words it; and the papers.
 pub fn check() {
+    check_papers();
     let log = worked();
     assert_eq!(reference::report(&log), REPORT);
     let reading = reference::read_log(&log);

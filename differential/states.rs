@@ -53,6 +53,25 @@ fn votes_sound(w: &Witness) -> bool {
     })
 }
 
+// A log of what a sound state holds: its members, then its checkpoints, then its votes.
+pub fn log_of(w: &Witness) -> Vec<u8> {
+    let name = |place: u16| &w.names[32 * usize::from(place)..][..32];
+    let height = |place: u16| w.heights[usize::from(place)].to_be_bytes();
+    let mut log = [b"FFW\x00\x01", name(0)].concat();
+    for i in 0..w.member_count {
+        log.extend([&[1], &w.ids[i].to_be_bytes()[..], &w.bonds[i].to_be_bytes()].concat());
+    }
+    for place in 1..w.checkpoint_count {
+        log.extend([&[2], name(place as u16), name(w.parents[place])].concat());
+    }
+    for i in 0..w.vote_count {
+        let (source, target) = (w.sources[i], w.targets[i]);
+        log.extend([&[3], &w.voters[i].to_be_bytes()[..], name(source), name(target)].concat());
+        log.extend([height(source), height(target)].concat());
+    }
+    log
+}
+
 // Something changed in a state, most likely so that row 40 applies; sometimes past what is held, where it does not.
 pub fn disturb(random: &mut Random, w: &mut Witness) {
     let member = random.below(w.member_count.max(1));

@@ -1,11 +1,12 @@
 // What occurred, counted: a generator that misses a row of the table compares nothing there.
-use crate::reference::{Reading, Refusal, Status};
+use crate::paper::{self, Link};
+use crate::reference::{is_supermajority, Reading, Refusal, Status, Witness};
 use std::collections::BTreeMap;
 
 #[derive(Default)]
 pub struct Tally(BTreeMap<String, u64>);
 
-// Every row of the table, and every answer.
+// Every row of the table, every answer, and what papers have to show.
 const ROWS: [Refusal; 30] = [
     1, 2, 3, 4, 5, 10, 11, 12, 13, 20, 21, 22, 30, 31, 32, 33, 34, 35, 36, 40, 41, 50, 51, 52, 53, 54, 55, 56, 57, 60,
 ];
@@ -19,6 +20,14 @@ const ANSWERS: [&str; 9] = [
     "list passed with nobody named",
     "state sound",
     "state not sound",
+];
+const PAPERS: [&str; 6] = [
+    "paper of several pages",
+    "paper with a full last page",
+    "paper row with zeros, not the root's",
+    "paper row by a link without a quorum",
+    "paper row by the lowest source of equal bonds",
+    "paper row that passes over more bond from a plain source",
 ];
 
 impl Tally {
@@ -70,10 +79,42 @@ impl Tally {
         self.add(if reading.witness.conflict() { ANSWERS[3] } else { ANSWERS[4] });
     }
 
+    // What the paper of a witness shows, by the reference. The root has zeros in every paper.
+    pub fn paper(&mut self, w: &Witness) {
+        let count = w.checkpoints.len();
+        if count > paper::ROWS {
+            self.add(PAPERS[0]);
+        }
+        if count % paper::ROWS == 0 {
+            self.add(PAPERS[1]);
+        }
+        let status = w.statuses();
+        for into in w.links_into().iter().skip(1) {
+            self.paper_row(into, &status, w.total());
+        }
+    }
+
+    fn paper_row(&mut self, into: &[Link], status: &[Status], total: u64) {
+        let Some(shown) = paper::shown(into, status) else {
+            return self.add(PAPERS[2]);
+        };
+        let justified = |l: &Link| status[l.source].is_justified();
+        if !is_supermajority(shown.bond, total) {
+            self.add(PAPERS[3]);
+        }
+        // which one was chosen shows only by the number of members
+        if into.iter().any(|l| justified(l) && l.bond == shown.bond && l.members != shown.members) {
+            self.add(PAPERS[4]);
+        }
+        if into.iter().any(|l| !justified(l) && l.bond > shown.bond) {
+            self.add(PAPERS[5]);
+        }
+    }
+
     // What never occurred.
     pub fn missing(&self) -> Vec<String> {
         let rows = ROWS.iter().map(|row| format!("refused {row:2}"));
-        let answers = ANSWERS.iter().map(|a| a.to_string());
+        let answers = ANSWERS.iter().chain(&PAPERS).map(|a| a.to_string());
         rows.chain(answers).filter(|what| !self.0.contains_key(what)).collect()
     }
 

@@ -4,11 +4,13 @@
 #   make.py             writes data/ and args
 #   make.py PRINTER     writes stdout too: under each log's name, what PRINTER prints of that log
 #
-# PRINTER takes a log on standard input and prints its report. It must share no code with the program under test; the one
-# that made stdout is differential/print.rs. Each run writes the same bytes.
+# PRINTER takes a log on standard input and prints its report, or, with the word `paper`, its board paper. It must share
+# no code with the program under test; the one that made stdout is differential/print.rs. Each run writes the same
+# bytes.
 #
-# A log's name says what is in it. "row" logs show a row of the table of refusals, "first" logs a record to which several
-# rows apply, "cut" logs a last record that is cut by the end.
+# A log's name says what is in it. Of "paper" logs the board paper is printed, of all others the report. "row" logs show
+# a row of the table of refusals, "first" logs a record to which several rows apply, "cut" logs a last record that is
+# cut by the end.
 import shutil
 import subprocess
 import sys
@@ -559,6 +561,42 @@ def long_logs():
     return {"refusals-past-one-buffer": log(member(1, 0) * 3_000, SMALL, vote(1, ROOT, A))}
 
 
+# A tree of so many checkpoints, with the root: three branches, side by side. Links of one to five members lead into a
+# checkpoint from its parent, where the first member alone is no quorum, from the parent's parent, and now and then from
+# the root, which justifies it anew.
+def forest(count):
+    bonds = [MAX_BOND // 2, MAX_BOND // 3, MAX_BOND // 4, 40, 7]
+    spots = [ROOT]
+    records = [members(*bonds)]
+    above = {}
+    for place in range(1, count):
+        parent = max(place - 3, 0)
+        above[place] = parent
+        spots.append(child(spots[parent], f"place {place}"))
+        records.append(checkpoint(spots[place], spots[parent]))
+    for place in range(1, count):
+        parent = above[place]
+        records.append(votes(range(1, 2 + place % 5), spots[parent], spots[place]))
+        if parent:
+            records.append(votes(range(2, 3 + place % 4), spots[above[parent]], spots[place]))
+        if place % 7 == 0 and parent and above[parent]:
+            records.append(votes([1, 2], ROOT, spots[place]))
+    return log(*records)
+
+
+def paper_logs():
+    return {
+        "paper-header-alone": header(),
+        "paper-48-checkpoints": forest(48),
+        "paper-49-checkpoints": forest(49),
+        "paper-512-checkpoints": forest(512),
+        "paper-session": session_logs()["session"],
+        "paper-stopped": log(members(1), checkpoint(child(ROOT, "A"), ROOT), b"\x09"),
+        "paper-cut": log(members(1), checkpoint(child(ROOT, "A"), ROOT))[:-1],
+        "paper-wrong-header": header(mark=b"FFX"),
+    }
+
+
 GROUPS = [
     header_logs,
     stop_logs,
@@ -589,6 +627,7 @@ GROUPS = [
     pair_logs,
     long_logs,
     cut_logs,
+    paper_logs,
 ]
 
 
@@ -611,12 +650,13 @@ def write_logs(logs):
     (HERE / "args").write_text("".join(f"{name}\n" for name in logs))
 
 
-def report_of(printer, content):
-    return subprocess.run([printer], input=content, stdout=subprocess.PIPE, check=True).stdout
+def printed(printer, name, content):
+    word = "paper" if name.startswith("paper") else "report"
+    return subprocess.run([printer, word], input=content, stdout=subprocess.PIPE, check=True).stdout
 
 
-def write_reports(printer, logs):
-    reports = [f"{name}\n".encode() + report_of(printer, content) for name, content in logs.items()]
+def write_printed(printer, logs):
+    reports = [f"{name}\n".encode() + printed(printer, name, content) for name, content in logs.items()]
     (HERE / "stdout").write_bytes(b"".join(reports))
 
 
@@ -624,7 +664,7 @@ def main():
     logs = all_logs()
     write_logs(logs)
     if len(sys.argv) > 1:
-        write_reports(sys.argv[1], logs)
+        write_printed(sys.argv[1], logs)
 
 
 if __name__ == "__main__":

@@ -1,6 +1,7 @@
-// The report of each log that an argument names, under the log's name, as the report program prints it. make.py makes
-// the logs; the stored output comes from another implementation.
-use stream::Fate;
+// The report of each log that an argument names, under the log's name, as the report program prints it; of a log whose
+// name begins with `paper` the board paper, as ffw_paper prints it. make.py makes the logs; the stored output comes
+// from another implementation.
+use turns::Fate;
 
 // The report of the log in an open file.
 fn write_report(fd: i32) {
@@ -11,6 +12,27 @@ fn write_report(fd: i32) {
     }
 }
 
+// Whether a name begins with `paper`.
+fn is_paper(path: &[u8]) -> bool {
+    if path.len() < 5 {
+        return false;
+    }
+    (path[0] == b'p')
+        & (path[1] == b'a')
+        & (path[2] == b'p')
+        & (path[3] == b'e')
+        & (path[4] == b'r')
+}
+
+// The report of the log in an open file, or its board paper.
+fn write_asked(fd: i32, paper: bool) {
+    if paper {
+        printer::print_paper(stream::read_log(fd, false));
+        return;
+    }
+    write_report(fd);
+}
+
 fn show(path: &[u8]) {
     buffered::print(path);
     buffered::print(b"\n");
@@ -19,7 +41,7 @@ fn show(path: &[u8]) {
         os::fail(path);
         return;
     }
-    write_report(fd);
+    write_asked(fd, is_paper(path));
     libc::close(fd);
 }
 

@@ -1,6 +1,7 @@
 // Answers as numbers, for a caller in Rust or C.
 use model::Refusal;
 use model::Status;
+use model::WriteAnswer;
 use report::Fed;
 use report::Pause;
 use state::Outcome;
@@ -9,10 +10,11 @@ use state::Witness;
 ghost use mathlib.Core.Path.{_≡_};
 ghost use mathlib.Core.List.{List};
 ghost use Prim.Native.Nat.{ℕ};
+ghost use Rattle.model.specs.Buffer.{writeAnswerOf};
 ghost use Rattle.model.specs.Refusals.{refusalNumber};
 ghost use Rattle.state.specs.Reading.{outcomeOf, startOf};
 ghost use Rattle.report.specs.Feed.{Feeding, IsFed, pausedOf};
-ghost use Rattle.codes.specs.Numbers.{refusalOf, statusNumber, pauseNumber, IsTold, IsPiece};
+ghost use Rattle.codes.specs.Numbers.{refusalOf, statusNumber, pauseNumber, IsAnswered, IsTold, IsPiece};
 
 // An answer: the number of the refusal and 0, or 0 and the value.
 #[repr(C)]
@@ -107,6 +109,22 @@ pub fn tell(o: Outcome) -> Tells
         Outcome::Refused(r) => Tells {
             refused: number(r),
             taken: 0,
+        },
+    }
+}
+
+// What writing a text came to: the number of the refusal, or the text's length.
+pub fn tell_length(a: WriteAnswer) -> Answered
+    ensures { λ r. ⌜ IsAnswered (λ n. n) (writeAnswerOf a) r ⌝ }
+{
+    match a {
+        WriteAnswer::Length(n) => Answered {
+            refused: 0,
+            value: n as u64,
+        },
+        WriteAnswer::Refused(r) => Answered {
+            refused: number(r),
+            value: 0,
         },
     }
 }

@@ -1,23 +1,18 @@
 -- Bytes written one run after another into a lent buffer: what is written so far, and past it what was there.
-use Prim.Native.Nat.{ℕ, _+_, _*_, _-_, _<_, _≤_}
+use Prim.Native.Nat.{ℕ, _+_, _*_, _-_, _≤_}
 use native.Mathlib.Omega.{arith}
 use native.Mathlib.Numerals.{add-one}
 use mathlib.Core.Path.{_≡_, refl, sym, ap, ap₂, _∙_}
 use mathlib.Core.List.{List, [], _∷_, _++_, append-assoc, append-nil, flatMap}
-use borrow.Author.Tests.{lt-ltb, le-ltb}
 use lib.ListN.{length, take, drop, set, length-append, length-drop, take-append-drop, drop-of-length-le}
 use lib.Seq.{length-take-le, take-all, take-at, drop-at, drop-drop}
-use Rattle.model.specs.Answer.{answer, row}
-use Rattle.model.specs.Buffer.{writeText, bufferAfter}
 use Rattle.model.specs.Bytes.{beBytes, ascii}
 use Rattle.model.specs.Evidence.{Charge, entryBytes, listBytes}
-use Rattle.model.specs.declared.Refusal.the-variants.{BufferTooShort}
 use Rattle.model.specs.Lists.{tabulate}
 use Rattle.model.proofs.Checker.{length-encoded}
 use Rattle.model.proofs.Lists.{length-tabulate}
 use Rattle.evidence.specs.declared.Charges.{Charges}
-use Rattle.evidence.specs.declared.ListAnswer.the-variants.{Length, Refused}
-use Rattle.evidence.specs.Listed.{chargeIn, chargesOf, Written}
+use Rattle.evidence.specs.Listed.{chargeIn, chargesOf}
 
 -- the rest of a buffer, lent and written to its first k bytes, comes back in its place
 pub lent-tail : (at k : ℕ) (l b m : List ℕ) → m ≡ b ++ drop k (take (length l - at) (drop at l)) → take at l ++ (m ++ drop (length l - at) (drop at l)) ≡ take at l ++ (b ++ drop k (drop at l))
@@ -98,18 +93,3 @@ module _ (cs : List Charge) (n : ℕ) (count : length cs ≡ n) where
 pub count-charges : (c : Charges) → length (chargesOf c) ≡ c .count
 unfolding chargesOf
 count-charges c = length-tabulate (c .count) (chargeIn c)
-
-module _ (list before : List ℕ) where
-  pub too-short : length before < length list → Written list before (Refused BufferTooShort) before
-  unfolding row writeText bufferAfter
-  too-short h = record { answered = rw (lt-ltb _ _ h); buffer = rw (lt-ltb _ _ h) }
-
-  pub all-written : {n : ℕ} {after : List ℕ} → n ≡ length list → n ≤ length before → after ≡ list ++ drop n before
-      → Written list before (Length n) after
-  unfolding row writeText bufferAfter
-  all-written {n} e h whole =
-      let fits : length list ≤ length before = omega arith in
-      record {
-        answered = rw (le-ltb _ _ fits) (ap answer e);
-        buffer = rw (le-ltb _ _ fits) (whole ∙ ap (λ (k : ℕ). list ++ drop k before) e);
-      }

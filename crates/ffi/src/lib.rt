@@ -7,7 +7,6 @@ use codes::Begun;
 use codes::Piece;
 use codes::Read;
 use codes::Replay;
-use evidence::ListAnswer;
 use model::Place;
 use state::Witness;
 use witness::ConflictAnswer;
@@ -18,6 +17,7 @@ ghost use Prim.Native.Nat.{_+_};
 ghost use lib.ListN.{length, drop};
 ghost use Rattle.model.specs.Evidence.{ourList};
 ghost use Rattle.model.specs.Log.{header};
+ghost use Rattle.model.specs.Paper.{paper};
 ghost use Rattle.model.specs.Run.{reading};
 ghost use Rattle.state.specs.Reading.{beginWith};
 ghost use Rattle.state.specs.Sound.{sound?};
@@ -162,16 +162,18 @@ pub extern "C" fn ffw_list(w: Witness, buf: &mut [u8]) -> Answered
         × (now (buf .exit) ≡ writeBuffer ourList w (now (buf .entry)))
         ⌝ }
 {
-    match witness::write_list(w, buf) {
-        ListAnswer::Length(n) => Answered {
-            refused: 0,
-            value: n as u64,
-        },
-        ListAnswer::Refused(r) => Answered {
-            refused: codes::number(r),
-            value: 0,
-        },
-    }
+    codes::tell_length(witness::write_list(w, buf))
+}
+
+// The board paper into a lent buffer: its length; rows 40 and 60, which leave the buffer unwritten.
+#[no_mangle]
+pub extern "C" fn ffw_paper(w: Witness, buf: &mut [u8]) -> Answered
+    ensures { λ r. ⌜
+        IsAnswered (λ n. n) (writeCall paper w (now (buf .entry))) r
+        × (now (buf .exit) ≡ writeBuffer paper w (now (buf .entry)))
+        ⌝ }
+{
+    codes::tell_length(witness::write_paper(w, buf))
 }
 
 // Checking a list of charges: the sum of the named bonds; rows 40 and 50 to 57.

@@ -1,6 +1,6 @@
 // The report of a log: the log on standard input, the report on standard output.
 use libc::STDIN_FILENO;
-use stream::Fate;
+use turns::Fate;
 
 fn main() {
     let log = stream::read_log(STDIN_FILENO, true);

@@ -3,6 +3,7 @@
 // well-formed.
 pub mod finals;
 
+use model::MAX_CHECKPOINTS;
 use model::Place;
 use model::Status;
 use standing::status_of;
@@ -46,16 +47,21 @@ pub fn support(w: Witness, s: Place, t: Place) -> Backing
     requires { ⌜ Sound w × (s .0 < w .«checkpoint_count») × (t .0 < w .«checkpoint_count») ⌝ }
     ensures { λ r. ⌜ backingOf r ≡ support (modelOf w) (s .0) (t .0) ⌝ }
 {
-    let from = s.0 as usize;
-    let to = t.0 as usize;
+    let source = s.0 as usize;
+    let target = t.0 as usize;
     let members = w.member_count;
-    let sources = w.sources;
     let b = votes::prepare(w);
     let who = b.who;
+    let from = b.from;
     let head = b.head;
     let next = b.next;
-    let tally = votes::gather(&who, sources, &next, head[to]);
-    let v = tally[from];
+    let mut lo = [0u64; MAX_CHECKPOINTS];
+    let mut hi = [0u64; MAX_CHECKPOINTS];
+    votes::gather(&who, &from, &next, head[target], &mut lo, &mut hi);
+    let v = Voters {
+        lo: lo[source],
+        hi: hi[source],
+    };
     let quota = b.quota;
     backed_by(v, &w.bonds, members, quota)
 }

@@ -2,11 +2,11 @@
 // of each, is read whole and asked. The formula gives the byte at each offset. The file `stdout` is what expected.py
 // prints, which makes the same log by the same formula and answers by code of its own.
 use checker::CheckAnswer;
-use evidence::ListAnswer;
 use libc::STDOUT_FILENO;
 use model::Place;
 use model::Refusal;
 use model::Status;
+use model::WriteAnswer;
 use state::Outcome;
 use state::Witness;
 use witness::ConflictAnswer;
@@ -586,8 +586,8 @@ fn say_charges(w: Witness, buf: &[u8], n: usize) {
 fn say_list(w: Witness) {
     let mut buf = [0u8; 775];
     match witness::write_list(w, &mut buf) {
-        ListAnswer::Length(n) => say_charges(w, &buf, n),
-        ListAnswer::Refused(r) => say_refused(r),
+        WriteAnswer::Length(n) => say_charges(w, &buf, n),
+        WriteAnswer::Refused(r) => say_refused(r),
     }
 }
 

@@ -19,8 +19,8 @@ use Rattle.state.specs.declared.Outcome.the-variants.{Refused}
 use Rattle.state.specs.declared.Start.the-variants.{Begun, Refused as RefusedHeader}
 use Rattle.checker.specs.Check.{checkOf}
 use Rattle.checker.specs.declared.CheckAnswer.the-variants.{Refused as RefusedCheck}
-use Rattle.evidence.specs.Listed.{listAnswerOf}
-use Rattle.evidence.specs.declared.ListAnswer.the-variants.{Refused as RefusedList}
+use Rattle.model.specs.Buffer.{writeAnswerOf}
+use Rattle.model.specs.declared.WriteAnswer.the-variants.{Refused as RefusedWrite}
 use Rattle.witness.specs.Answers.{statusOf, conflictOf}
 use Rattle.witness.specs.Calls.{onSound, statusCall, conflictCall, writeCall, writeBuffer, checkCall}
 use Rattle.witness.specs.declared.StatusAnswer.the-variants.{Refused as RefusedStatus}
@@ -84,7 +84,8 @@ module _ (w : Witness) (log : List ℕ) (limit : ℕ) (r : Replayed) (is : IsRep
 
   module _ (p : ℕ) (list buffer : List ℕ) where
     pub answers-begun : AreBytes log → r .start ≡ Begun → (a : Answers) → a .last ≡ r .read .last → a .records ≡ r .read .records → statusOf (a .status) ≡ statusCall held p
-        → conflictOf (a .conflict) ≡ conflictCall held → listAnswerOf (a .ours) ≡ writeCall ourList held buffer → checkOf (a .theirs) ≡ checkCall held list → IsAnswers log limit p list buffer a
+        → conflictOf (a .conflict) ≡ conflictCall held → writeAnswerOf (a .ours) ≡ writeCall ourList held buffer
+        → checkOf (a .theirs) ≡ checkCall held list → IsAnswers log limit p list buffer a
     unfolding statusCall conflictCall writeCall checkCall
     answers-begun bytes e a l n s c o t = record {
       last = ap outcomeOf l ∙ last-asked bytes e;
@@ -96,7 +97,16 @@ module _ (w : Witness) (log : List ℕ) (limit : ℕ) (r : Replayed) (is : IsRep
     }
 
     pub answers-refused : (f : Refusal) → r .start ≡ RefusedHeader f
-        → IsAnswers log limit p list buffer (record { last = Refused f; records = 0; status = RefusedStatus f; conflict = RefusedConflict f; ours = RefusedList f; theirs = RefusedCheck f })
+        → IsAnswers log limit p list buffer
+        (record {
+          last = Refused f;
+          records = 0;
+          status = RefusedStatus f;
+          conflict = RefusedConflict f;
+          ours =
+              RefusedWrite f;
+          theirs = RefusedCheck f;
+        })
     unfolding recordsRead
     answers-refused f e = record {
       last = refused-asked _ f e;

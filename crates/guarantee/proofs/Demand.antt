@@ -12,12 +12,15 @@ use Rattle.model.specs.Checker.{check}
 use Rattle.model.specs.Evidence.{ourList}
 use Rattle.model.specs.Lists.{All, none, each}
 use Rattle.model.specs.Model.{Model, start}
+use Rattle.model.specs.Paper.{paper}
 use Rattle.model.specs.Run.{Event, OfBytes, decideEvent, after, outcomes}
 use Rattle.model.specs.WellFormed.{WellFormed}
+use Rattle.model.proofs.Best.{best-exact}
 use Rattle.model.proofs.Bytes.{drop-bytes}
 use Rattle.model.proofs.Checker.{checker-exact, list-exact, our-list-passes}
 use Rattle.model.proofs.Conduct.{conduct-exact}
 use Rattle.model.proofs.Finality.{status-exact, root-answer, conflict-exact}
+use Rattle.model.proofs.Paper.{paper-exact}
 use Rattle.model.proofs.Readings.{readings-bound, readings-bytes}
 use Rattle.safety.proofs.Safety.{accountable-safety, no-innocent-named}
 use Rattle.state.specs.Sound.{Sound}
@@ -96,6 +99,10 @@ module _ (w : Witness) (b : Model) (h : Holds w b) where
     list-answer = λ buffer. answered w b h _;
     list-written = buffer-is ourList;
     list-exact = list-exact b (good w b h);
+    paper-answer = λ buffer. answered w b h _;
+    paper-written = buffer-is paper;
+    paper-exact = paper-exact b (good w b h);
+    best-exact = best-exact b (good w b h);
     checker-answer = λ l. answered w b h (λ m. check m l);
     checker-exact = λ l. checker-exact b l;
     conduct-exact = λ id. conduct-exact b id;

@@ -25,8 +25,9 @@ use Rattle.reader.specs.Many.{endedBy}
 use Rattle.reader.proofs.Made.{length-inside}
 use Rattle.state.specs.Sound.{Sound, sound?}
 use Rattle.state.proofs.Sound.{sound-true}
-use Rattle.witness.specs.Calls.{held, decideOn, eventCall}
+use Rattle.witness.specs.Calls.{held, decideOn, eventCall, writeCall, writeBuffer}
 use Rattle.witness.specs.Readings.{manyCall}
+use Rattle.witness.proofs.Placed.{write-40}
 use Rattle.report.specs.Feed.{Paused, wants, full, outOfNumbers, ended, refusedBy, Feeding, pausedAt, ahead, lineRoom, lastNumber, spent, halted, headed, openCall, feedCall, endFed, endCall, endText}
 use Rattle.report.specs.Feed as Feed
 use Rattle.report.proofs.ByRecord.{call-elim, Halts, nothing-left, unknown, cut, halts, unknown-decided, cut-decided}
@@ -140,5 +141,18 @@ module _ (w : Witness) where
   unfolding manyCall
   many-unsound e n log at = rw e
 
+  write-unsound : sound? w ≡ false → (text : Model → List ℕ) (buffer : List ℕ)
+      → (writeCall text w buffer ≡ refused 40) × (writeBuffer text w buffer ≡ buffer)
+  write-unsound e text buffer = let so = write-40 w e text buffer in (sym (so .0), sym (so .1))
+
 pub calls-keep : CallsKeep
-calls-keep w = record { refused-keeps = refused-keeps w; close-keeps = close-keeps w; open-keeps = open-keeps w; feed-unsound = feed-unsound w; many-unsound = many-unsound w }
+calls-keep w =
+    record {
+      refused-keeps = refused-keeps w;
+      close-keeps = close-keeps w;
+      open-keeps = open-keeps w;
+      feed-unsound =
+          feed-unsound w;
+      many-unsound = many-unsound w;
+      write-unsound = write-unsound w;
+    }

@@ -5,7 +5,7 @@ use mathlib.Core.Path.{_≡_}
 use mathlib.Core.List.{List}
 use lib.ListN.{length}
 use Rattle.model.specs.Answer.{Answer, refused, answer, andThen}
-use Rattle.model.specs.Buffer.{writeText, bufferAfter}
+use Rattle.model.specs.Buffer.{writeText, bufferAfter, writeAnswerOf}
 use Rattle.model.specs.Change.{Told, nothingLeft}
 use Rattle.model.specs.Checker.{check}
 use Rattle.model.specs.Evidence.{ourList}
@@ -14,7 +14,6 @@ use Rattle.model.specs.Log.{header}
 use Rattle.model.specs.Model.{Model, start}
 use Rattle.model.specs.Run.{after, outcomes}
 use Rattle.checker.specs.Check.{checkOf}
-use Rattle.evidence.specs.Listed.{listAnswerOf}
 use Rattle.state.specs.Reading.{outcomeOf}
 use Rattle.witness.specs.Answers.{statusOf, conflictOf}
 use Rattle.guarantee.specs.declared.Answers.{Answers}
@@ -44,7 +43,7 @@ pub record IsAnswers (log : List ℕ) (limit p : ℕ) (list buffer : List ℕ) (
   pub records : r .records ≡ recordsRead (header log) limit log
   pub status : statusOf (r .status) ≡ onBook limit log (λ b. statusAt b p)
   pub conflict : conflictOf (r .conflict) ≡ onBook limit log (λ b. answer (conflicting? b))
-  pub ours : listAnswerOf (r .ours) ≡ onBook limit log (λ b. writeText (ourList b) buffer)
+  pub ours : writeAnswerOf (r .ours) ≡ onBook limit log (λ b. writeText (ourList b) buffer)
   pub theirs : checkOf (r .theirs) ≡ onBook limit log (λ b. check b list)
 
 -- the buffer: our list and then what was there; as it was where the header is refused or there is no room

@@ -11,14 +11,14 @@ use Rattle.model.specs.Answer.{refused, answer}
 use Rattle.model.specs.Bytes.{AreBytes}
 use Rattle.model.specs.Lists.{All}
 use Rattle.model.specs.Log.{header, recordLength}
-use Rattle.model.specs.Model.{start}
+use Rattle.model.specs.Model.{Model, start}
 use Rattle.model.specs.Report.{stoppedLine, outcomeLines}
 use Rattle.model.specs.Run.{Event, reading, OfBytes, after, outcomes}
 use Rattle.state.specs.Sound.{Typed, sound?}
 use Rattle.state.specs.State.{emptyWitness, modelOf, stored}
 use Rattle.state.specs.declared.Witness.{Witness}
 use Rattle.reader.specs.Many.{rowsUsed, endedBy, Many}
-use Rattle.witness.specs.Calls.{eventCall}
+use Rattle.witness.specs.Calls.{eventCall, writeCall, writeBuffer}
 use Rattle.witness.specs.Readings.{manyCall}
 use Rattle.report.specs.Feed.{Paused, wants, full, outOfNumbers, ended, refusedBy, Feeding, pausedAt, lineRoom, lastNumber, openCall, feedCall, endCall}
 use Rattle.report.specs.Pieces.{Piece}
@@ -106,6 +106,9 @@ pub record WitnessKept (w : Witness) : Type 0 where
   pub feed-unsound : sound? w ≡ false → (room k : ℕ) (s : List ℕ) → feedCall room w k s ≡ pausedAt [] (refusedBy 40) w k
   pub many-unsound : sound? w ≡ false → (n : ℕ) (log : List ℕ) (at : ℕ)
       → manyCall n w log at ≡ record { passed = []; end = endedBy (refused 40); next = at; witness = w }
+  -- 40 comes before 60, and leaves the buffer too
+  pub write-unsound : sound? w ≡ false → (text : Model → List ℕ) (buffer : List ℕ)
+      → (writeCall text w buffer ≡ refused 40) × (writeBuffer text w buffer ≡ buffer)
 
 abbrev pub CallsKeep : Type 0
 CallsKeep = (w : Witness) → WitnessKept w

@@ -10,9 +10,10 @@ use Rattle.model.specs.Buffer.{writeText, bufferAfter}
 use Rattle.model.specs.Bytes.{AreBytes}
 use Rattle.model.specs.Checker.{check}
 use Rattle.model.specs.Evidence.{ourList, violator?}
-use Rattle.model.specs.Exact.{StatusExact, ConflictExact, ConductExact, ListExact, CheckerExact}
+use Rattle.model.specs.Exact.{StatusExact, ConflictExact, ConductExact, ListExact, CheckerExact, PaperExact, BestExact}
 use Rattle.model.specs.Finality.{statusAt, conflicting?}
 use Rattle.model.specs.Model.{Model}
+use Rattle.model.specs.Paper.{paper}
 use Rattle.model.specs.declared.Status.the-variants.{Final as FinalStatus}
 use Rattle.model.specs.Support.{supportAt, sum}
 use Rattle.safety.specs.Share.{NamesViolators}
@@ -35,11 +36,18 @@ pub record ByTheRules (w : Witness) (b : Model) : Type 0 where
   -- the conflict answer
   pub conflict-answer : conflictCall w ≡ answer (conflicting? b)
   pub conflict-exact : ConflictExact b
-  -- our list: written, whatever the buffer, unless 60 applies, which leaves the buffer; it is what the section on charges calls for
+  -- our list and the board paper: each is written, whatever the buffer, unless 60 applies, which leaves the buffer
   pub list-answer : (buffer : List ℕ) → writeCall ourList w buffer ≡ writeText (ourList b) buffer
   pub list-written : (buffer : List ℕ)
       → writeBuffer ourList w buffer ≡ bufferAfter (ourList b) buffer (writeText (ourList b) buffer)
+  pub paper-answer : (buffer : List ℕ) → writeCall paper w buffer ≡ writeText (paper b) buffer
+  pub paper-written : (buffer : List ℕ)
+      → writeBuffer paper w buffer ≡ bufferAfter (paper b) buffer (writeText (paper b) buffer)
+  -- our list is what the section on charges calls for
   pub list-exact : ListExact b
+  -- how the board paper is laid out, and what it shows behind a checkpoint
+  pub paper-exact : PaperExact b
+  pub best-exact : (t : ℕ) → BestExact b t
   -- "of all lists of charges, whoever wrote them, the checker passes exactly those .."; "so none that names a member whose
   -- votes keep both commandments"
   pub checker-answer : (l : List ℕ) → checkCall w l ≡ check b l

@@ -33,7 +33,8 @@ toldOf w (e ∷ es) = eventCall w e .told ∷ toldOf (stored w (eventCall w e)) 
 pub record Guarantee (name : List ℕ) (es : List Event) (w : Witness) (b : Model) : Type 0 where
   -- "each record was taken, or refused with the same number"; 40 never occurs, as the book has no such row
   pub outcomes-agree : toldOf (emptyWitness name) es ≡ outcomes (start name) es
-  -- the held lists, the standings, the support, the conflict answer, our list and the checker: the fields of ByTheRules
+  -- the held lists, the standings, the support, the conflict answer, our list, the board paper and the
+  -- checker: the fields of ByTheRules
   pub answers : ByTheRules w b
   -- "If two conflicting checkpoints are final by the book, our list passes .. and names at least a third of all bonds."
   pub share : ConflictingFinals b → ShareNamed b

@@ -1,8 +1,8 @@
 // Demand 3 as one theorem about every run: the statement is in specs/, its proof in proofs/. What stands here ties it
 // to code: a log read from its header on, so many of its records as are asked for, to its end or its stop.
 use checker::CheckAnswer;
-use evidence::ListAnswer;
 use model::Place;
+use model::WriteAnswer;
 use state::Outcome;
 use state::Start;
 use state::Witness;
@@ -114,7 +114,7 @@ pub struct Answers {
     pub records: u64,
     pub status: StatusAnswer,
     pub conflict: ConflictAnswer,
-    pub ours: ListAnswer,
+    pub ours: WriteAnswer,
     pub theirs: CheckAnswer,
 }
 
@@ -145,7 +145,7 @@ pub fn ask(w: Witness, log: &[u8], limit: u64, p: Place, theirs: &[u8], buf: &mu
             records: 0,
             status: StatusAnswer::Refused(refusal),
             conflict: ConflictAnswer::Refused(refusal),
-            ours: ListAnswer::Refused(refusal),
+            ours: WriteAnswer::Refused(refusal),
             theirs: CheckAnswer::Refused(refusal),
         },
     }

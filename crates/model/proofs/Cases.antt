@@ -1,6 +1,6 @@
--- Cases, each computed, in three tables: those that document 01 marks ●, as the change requests word them now; those
--- that shut out plausible and wrong versions; and for each row of "Why something is turned back" that the model
--- decides, at least one.
+-- Cases, each computed, in four tables: those that document 01 marks ●, as the change requests word them now; those
+-- that shut out plausible and wrong versions; for each row of "Why something is turned back" that the model decides, at
+-- least one; and those of the board paper.
 use Prim.Native.Nat.{ℕ}
 use Prim.Native.String.{String}
 use mathlib.Core.Path.{_≡_, refl}
@@ -12,19 +12,27 @@ use Rattle.model.specs.Buffer.{writeText, bufferAfter}
 use Rattle.model.specs.Bytes.{beOf, beBytes, field, ascii}
 use Rattle.model.specs.Checker.{check, checkFrom, entries, ownVote?}
 use Rattle.model.specs.Change.{addMember, addCheckpoint, addVote, append, appendAll, single, nothingLeft, taken}
-use Rattle.model.specs.Decide.{decide, decideRecord, decideMember, decideCheckpoint, voteBetween, voteOf, room, decideVote, heightsAgree, bondOutOfRange, membersFixed}
-use Rattle.model.specs.Evidence.{ourList, charges, chargeOf, conduct, conductFrom, broken?, violator?, byId, insertById, listBytes, entryBytes, bondOf}
+use Rattle.model.specs.Decide.{decide, decideRecord, decideMember, decideCheckpoint, voteBetween, voteOf, room}
+use Rattle.model.specs.Decide.{decideVote, heightsAgree, bondOutOfRange, membersFixed}
+use Rattle.model.specs.Evidence.{ourList, charges, chargeOf, conduct, conductFrom, broken?, violator?, byId}
+use Rattle.model.specs.Evidence.{insertById, listBytes, entryBytes, bondOf}
 use Rattle.model.specs.Finality.{justifiedMarks, justified?, sealed?, final?, status, statusAt, conflicting?}
-use Rattle.model.specs.Lists.{any, anyBelow, allBelow, pairBelow, firstIndex, sameBytes, tabulate}
+use Rattle.model.specs.Lists.{any, anyBelow, allBelow, pairBelow, firstIndex, sameBytes, tabulate, concatBelow}
 use Rattle.model.specs.Log.{header, kindOf, sizeOf, decodeAs, recordSize, recordLength, decode}
-use Rattle.model.specs.Model.{Model, Member, Checkpoint, Vote, start, memberAt, checkpointAt, voteAt, memberIndex, placeOf, idHeld, nameHeld, voteHeld}
-use Rattle.model.specs.Report.{report, reportBody, reportRun, summary, outcomeLines, outcomeLine, stops?, refusedLine, stoppedLine, checkpointLines, checkpointLine, checkpointText, statusText, memberLine, memberText, conductText, totalLine, totalText, yesNo, decimal, digits, newline}
+use Rattle.model.specs.Model.{Model, Member, Checkpoint, Vote, start, memberAt, checkpointAt, voteAt, memberIndex}
+use Rattle.model.specs.Model.{placeOf, idHeld, nameHeld, voteHeld}
+use Rattle.model.specs.Paper.{larger, bestBelow, bestSupport, blanks, left, right, rowText, checkpointRow}
+use Rattle.model.specs.Paper.{blankRow, rowAt, heading, foot, page, pages, paper}
+use Rattle.model.specs.Report.{report, reportBody, reportRun, summary, outcomeLines, outcomeLine, stops?}
+use Rattle.model.specs.Report.{refusedLine, stoppedLine, checkpointLine, checkpointText, statusText, memberLine}
+use Rattle.model.specs.Report.{memberText, conductText, totalLine, totalText, yesNo, decimal, digits, newline}
 use Rattle.model.specs.Run.{after, decideEvent, outcomes, readings}
 use Rattle.model.specs.Slashing.{breaks?}
 use Rattle.model.specs.Support.{count, sum, quorum, carries, support, supportAt, supports, link?}
 use Rattle.model.specs.Tree.{child?, reached?, ancestor?, conflict?}
 use Rattle.model.specs.declared.Status.the-variants.{Justified as JustifiedStatus}
-use Rattle.model.specs.WellFormed.{wellFormed?, counts?, members?, bonds?, tree?, steps?, vote?, votes?, idTwice?, nameTwice?, voteTwice?}
+use Rattle.model.specs.WellFormed.{wellFormed?, counts?, members?, bonds?, tree?, steps?, vote?, votes?, idTwice?}
+use Rattle.model.specs.WellFormed.{nameTwice?, voteTwice?}
 
 -- a name of one letter, repeated
 abbrev name : String → List ℕ
@@ -67,12 +75,12 @@ session = after (start (name "R")) (readings (length records) records)
 abbrev line : String → List ℕ
 line s = ascii s ++ newline
 
-abbrev page : String → ℕ → ℕ → Checkpoint
-page s parent height = record { name = name s; parent = parent; height = height }
+abbrev node : String → ℕ → ℕ → Checkpoint
+node s parent height = record { name = name s; parent = parent; height = height }
 
 -- two votes of one member in a chain of checkpoints at places and heights 0 to 3
 abbrev chain : List Checkpoint
-chain = page "R" 0 0 ∷ page "A" 0 1 ∷ page "B" 1 2 ∷ page "C" 2 3 ∷ []
+chain = node "R" 0 0 ∷ node "A" 0 1 ∷ node "B" 1 2 ∷ node "C" 2 3 ∷ []
 
 -- states that were handed in, not built by readings
 abbrev held : List Member → List Checkpoint → List Vote → Model
@@ -251,14 +259,14 @@ pub record RowCases : Type 0 where
   row-40-no-root : wellFormed? (held [] [] []) ≡ false
   row-40-no-bond : wellFormed? (held (firm 1 0 ∷ []) chain []) ≡ false
   row-40-bond-above : wellFormed? (held (firm 1 1000000000001 ∷ []) chain []) ≡ false
-  row-40-root-height : wellFormed? (held [] (page "R" 0 1 ∷ []) []) ≡ false
-  row-40-parent : wellFormed? (held [] (page "R" 0 0 ∷ page "A" 2 2 ∷ page "B" 0 1 ∷ []) []) ≡ false
-  row-40-height : wellFormed? (held [] (page "R" 0 0 ∷ page "A" 0 2 ∷ []) []) ≡ false
+  row-40-root-height : wellFormed? (held [] (node "R" 0 1 ∷ []) []) ≡ false
+  row-40-parent : wellFormed? (held [] (node "R" 0 0 ∷ node "A" 2 2 ∷ node "B" 0 1 ∷ []) []) ≡ false
+  row-40-height : wellFormed? (held [] (node "R" 0 0 ∷ node "A" 0 2 ∷ []) []) ≡ false
   row-40-stranger : wellFormed? (held (firm 2 1 ∷ []) chain (along 0 1 ∷ [])) ≡ false
   row-40-place : wellFormed? (held (firm 1 1 ∷ []) chain (along 0 4 ∷ [])) ≡ false
   row-40-no-ancestor : wellFormed? (held (firm 1 1 ∷ []) chain (along 2 1 ∷ [])) ≡ false
   row-40-id-twice : wellFormed? (held (firm 1 1 ∷ firm 1 2 ∷ []) chain []) ≡ false
-  row-40-name-twice : wellFormed? (held [] (page "R" 0 0 ∷ page "R" 0 1 ∷ []) []) ≡ false
+  row-40-name-twice : wellFormed? (held [] (node "R" 0 0 ∷ node "R" 0 1 ∷ []) []) ≡ false
   row-40-vote-twice : wellFormed? (held (firm 1 1 ∷ []) chain (along 0 1 ∷ along 0 1 ∷ [])) ≡ false
   row-41 : statusAt session 5 ≡ refused 41
   row-41-last : statusAt session 4 ≡ answer JustifiedStatus
@@ -280,14 +288,75 @@ pub record RowCases : Type 0 where
   row-60-written : bufferAfter (1 ∷ 2 ∷ []) (9 ∷ 8 ∷ 7 ∷ 6 ∷ []) (answer 2) ≡ 1 ∷ 2 ∷ 7 ∷ 6 ∷ []
   row-60-room : writeText (ourList session) (replicate 13 0) ≡ answer 13
 
-pub cases : MarkedCases × WrongVersions × RowCases
+-- ---- the board paper
+
+-- 1 and 2 have a bond of 1, and 3 has as much as both
+abbrev twoAndOne : List ℕ → Model
+twoAndOne votes =
+    let records = member 1 1 ++ member 2 1 ++ member 3 2 ++ line4 ++ vote 1 "R" 0 "A" 1 ++ vote 3 "R" 0 "A" 1 ++
+    votes in
+    after (start (name "R")) (readings (length records) records)
+
+pub record PaperCases : Type 0 where
+  session-paper :
+      paper session
+      ≡ line "page 1                                                          "
+      ++ line "    0           0  final             0                         0"
+      ++ line "    1           1  final             2                         2"
+      ++ line "    2           1  final             2                         2"
+      ++ line "    3           2  justified         2                         2"
+      ++ line "    4           2  justified         2                         2"
+      ++ concatBelow 43 (λ i. line "                                                                ")
+      ++ line "----------------------------------------------------------------"
+  -- a source that isn't justified is passed over, however much stands behind it; a link without a quorum is shown; the
+  -- link need not come from the parent
+  justified-source :
+      rowAt (after (start (name "R")) (readings 500 (unequal ++ line4 ++ vote 300 "R" 0 "B" 2 ++ vote 0 "A" 1 "B" 2))) 2
+      ≡ line "    2           2  plain             1                        10"
+  -- among equal bonds the source at the lowest place, whoever is behind it; a larger bond at a later place
+  lowest-source :
+      bestSupport (twoAndOne (vote 1 "R" 0 "C" 3 ++ vote 2 "R" 0 "C" 3 ++ vote 3 "A" 1 "C" 3)) 3
+      ≡ record { number = 2; bonds = 2; yes? = false }
+  lowest-source-swapped :
+      bestSupport (twoAndOne (vote 3 "R" 0 "C" 3 ++ vote 1 "A" 1 "C" 3 ++ vote 2 "A" 1 "C" 3)) 3
+      ≡ record { number = 1; bonds = 2; yes? = false }
+  largest-bond :
+      rowAt (twoAndOne (vote 1 "R" 0 "C" 3 ++ vote 2 "A" 1 "C" 3 ++ vote 3 "A" 1 "C" 3)) 3
+      ≡ line "    3           3  justified         2                         3"
+  -- the largest numbers
+  full-row :
+      rowText 65535 4294967295 JustifiedStatus 128 128000000000000
+      ≡ line "65535  4294967295  justified       128           128000000000000"
+  -- a buffer that has just enough room, and one byte less
+  paper-fits : writeText (paper session) (replicate 3250 0) ≡ answer 3250
+  paper-too-long : writeText (paper session) (replicate 3249 0) ≡ refused 60
+  -- 48 checkpoints (`filled` has one more than its first number) fill a page, and the 49th begins the second, whose
+  -- missing rows are blanks
+  one-page : pages (filled 47 0) ≡ 1
+  two-pages : pages (filled 48 0) ≡ 2
+  second-page :
+      page (rowAt (filled 48 0)) 1
+      ≡ line "page 2                                                          "
+      ++ line "   48           1  plain             0                         0"
+      ++ concatBelow 47 (λ i. line "                                                                ")
+      ++ line "----------------------------------------------------------------"
+  eleventh-heading : heading 11 ≡ line "page 11                                                         "
+
+pub cases : MarkedCases × WrongVersions × RowCases × PaperCases
 unfolding
-    row any anyBelow allBelow pairBelow firstIndex tabulate sameBytes beOf beBytes field ascii start append appendAll single memberAt checkpointAt voteAt memberIndex placeOf voteHeld
-    child? reached? ancestor? conflict? header kindOf sizeOf decodeAs recordSize recordLength decode decide decideRecord decideMember decideCheckpoint voteBetween voteOf room decideVote andThen heightsAgree bondOutOfRange
-    membersFixed idHeld nameHeld decideEvent after outcomes readings count sum supports quorum carries support supportAt link? justifiedMarks justified? sealed? final? status statusAt writeText bufferAfter conflicting?
-    breaks? conductFrom conduct broken? violator? insertById byId digits decimal newline statusText checkpointText checkpointLine checkpointLines
-    conductText memberText memberLine yesNo totalText totalLine summary stops? stoppedLine refusedLine outcomeLine outcomeLines reportRun reportBody report flatMap
-    entries ownVote? checkFrom check chargeOf charges listBytes entryBytes ourList bondOf wellFormed? counts? members? bonds? tree? steps? vote? votes? idTwice? nameTwice? voteTwice?
+    row any anyBelow allBelow pairBelow firstIndex tabulate concatBelow sameBytes beOf beBytes field ascii start append
+    appendAll single memberAt checkpointAt voteAt memberIndex placeOf voteHeld
+    child? reached? ancestor? conflict? header kindOf sizeOf decodeAs recordSize recordLength decode decide decideRecord
+    decideMember decideCheckpoint voteBetween voteOf room decideVote andThen heightsAgree bondOutOfRange
+    membersFixed idHeld nameHeld decideEvent after outcomes readings count sum supports quorum carries support supportAt
+    link? justifiedMarks justified? sealed? final? status statusAt writeText bufferAfter conflicting?
+    breaks? conductFrom conduct broken? violator? insertById byId digits decimal newline statusText checkpointText
+    checkpointLine
+    conductText memberText memberLine yesNo totalText totalLine summary stops? stoppedLine refusedLine outcomeLine
+    outcomeLines reportRun reportBody report flatMap
+    entries ownVote? checkFrom check chargeOf charges listBytes entryBytes ourList bondOf wellFormed? counts? members?
+    bonds? tree? steps? vote? votes? idTwice? nameTwice? voteTwice?
+    larger bestBelow bestSupport left right rowText checkpointRow blankRow rowAt heading foot page paper
 cases = (
   record {
     session-report = refl;
@@ -391,5 +460,19 @@ cases = (
     row-60-unwritten = refl;
     row-60-written = refl;
     row-60-room = refl;
+  },
+  record {
+    session-paper = refl;
+    justified-source = refl;
+    lowest-source = refl;
+    lowest-source-swapped = refl;
+    largest-bond = refl;
+    full-row = refl;
+    paper-fits = refl;
+    paper-too-long = refl;
+    one-page = refl;
+    two-pages = refl;
+    second-page = refl;
+    eleventh-heading = refl;
   },
 )

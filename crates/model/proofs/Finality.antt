@@ -91,7 +91,7 @@ module _ (m : Model) (good : WellFormed m) where
       or-right (eqb t 0) (anyBelow t (λ k. getD (justifiedMarks m t) k false && link? m k t))
       (found-below t (λ k. getD (justifiedMarks m t) k false && link? m k t) s below (both (marks-at m t s below ∙ justified-mark j) l))
 
-  justified-held : {p : ℕ} → Justified m p → p < length (m .checkpoints)
+  pub justified-held : {p : ℕ} → Justified m p → p < length (m .checkpoints)
   justified-held root = good .tree .rooted
   justified-held (link {s = s} {t = t} j l) = link-held m good s t l
 

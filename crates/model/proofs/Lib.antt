@@ -2,6 +2,7 @@ pub mod Lists
 pub mod Growth
 pub mod Answer
 pub mod Refusals
+pub mod Buffer
 pub mod Bytes
 pub mod Log
 pub mod Rows
@@ -9,6 +10,9 @@ pub mod Fits
 pub mod Tree
 pub mod Support
 pub mod Finality
+pub mod Best
+pub mod Columns
+pub mod Paper
 pub mod Slashing
 pub mod Conduct
 pub mod Charges

@@ -63,3 +63,9 @@ pub enum Refusal {
     NoViolation,
     BufferTooShort,
 }
+
+// What writing a text into a lent buffer comes to: the text's length, or why nothing was written.
+pub enum WriteAnswer {
+    Length(usize),
+    Refused(Refusal),
+}

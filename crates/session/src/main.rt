@@ -2,11 +2,11 @@
 // conflict answer, our list and what the checker says of it. Then the same log by the calls that read many records: in
 // batches, whole, and asked.
 use checker::CheckAnswer;
-use evidence::ListAnswer;
 use libc::STDOUT_FILENO;
 use model::Place;
 use model::Refusal;
 use model::Status;
+use model::WriteAnswer;
 use reader::Batch;
 use reader::End;
 use state::Outcome;
@@ -1147,12 +1147,12 @@ fn say_sum(a: CheckAnswer) {
 }
 
 // The answer of a call that writes our list, and the whole buffer.
-fn say_written(a: ListAnswer, buf: &[u8]) {
+fn say_written(a: WriteAnswer, buf: &[u8]) {
     match a {
-        ListAnswer::Length(n) => {
+        WriteAnswer::Length(n) => {
             io::print_decimal(STDOUT_FILENO, n as u64);
         }
-        ListAnswer::Refused(r) => say_refused(r),
+        WriteAnswer::Refused(r) => say_refused(r),
     }
     say_bytes(buf);
     io::write_all(STDOUT_FILENO, b"\n");

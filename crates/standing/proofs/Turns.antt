@@ -14,7 +14,7 @@ use Rattle.state.proofs.Entries.{count-checkpoints, checkpoint-is}
 use Rattle.state.proofs.Sound.{few-checkpoints}
 use Rattle.tally.specs.declared.voters.Voters.{Voters}
 use Rattle.tally.specs.declared.votes.Ballots.{Ballots}
-use Rattle.tally.specs.Chains.{nobody, Walkable, Tallied}
+use Rattle.tally.specs.Chains.{Walkable, Tallied}
 use Rattle.tally.specs.Ready.{Ready}
 use Rattle.tally.specs.Weights.{carried}
 use Rattle.tally.proofs.Ready.{ready-walk, ready-link, ready-parent}
@@ -49,7 +49,7 @@ module _ {w : Witness} {b : Ballots} {justified finalizing : List Bool} {t : ℕ
 
   module _ (inside : t < w .«checkpoint_count») where
     -- the chain of its votes can be walked
-    pub turn-walk : Walkable (b .who) (w .sources) (b .next) (getD (b .head) t 0)
+    pub turn-walk : Walkable (b .who) (b .from) (b .next) (getD (b .head) t 0)
     turn-walk = ready-walk (at .ready) t (omega arith)
 
     -- its parent's place, a held one
@@ -60,12 +60,12 @@ module _ {w : Witness} {b : Ballots} {justified finalizing : List Bool} {t : ℕ
     turn-parent = ready-parent (at .ready) t (at .later) inside
 
     -- whether the voters of the link from s carry it
-    abbrev leads : List Voters → ℕ → Bool
-    leads tally s = carried (w .bonds) (w .«member_count») (b .quota) (getD tally s nobody)
+    abbrev leads : (ℕ → Voters) → ℕ → Bool
+    leads tally s = carried (w .bonds) (w .«member_count») (b .quota) (tally s)
 
     -- the voters of the links to t say whether it is justified, and whether a link joins its parent to it
-    pub turn-more : (tally : List Voters) {reached hit : Bool}
-        → Tallied (b .who) (w .sources) (b .next) (getD (b .head) t 0) tally
+    pub turn-more : (tally : ℕ → Voters) {reached hit : Bool}
+        → Tallied (b .who) (b .from) (b .next) (getD (b .head) t 0) tally
         → reached ≡ anyBelow t (λ s. getD justified s false && leads tally s)
         → hit ≡ leads tally parent
         → Turn w b (set justified t reached) (set finalizing parent (getD finalizing parent false || hit)) (t + 1)

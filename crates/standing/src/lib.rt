@@ -6,16 +6,14 @@ use model::Status;
 use state::Witness;
 use tally::links;
 use tally::voters;
+use tally::voters::Voters;
 use tally::votes;
 ghost use mathlib.Core.Path.{_≡_};
 ghost use Prim.Native.Nat.{_<_};
-ghost use lib.ListN.{length};
-ghost use Rattle.model.specs.Finality.{status};
 ghost use Rattle.model.specs.Limits.{checkpointLimit};
-ghost use Rattle.model.specs.Model.{Model};
 ghost use Rattle.state.specs.Sound.{Sound};
 ghost use Rattle.state.specs.State.{modelOf};
-ghost use Rattle.standing.specs.Answers.{IsAnalysis};
+ghost use Rattle.standing.specs.Answers.{IsAnalysis, statusIn};
 
 // For each place whether it is justified, and whether that would make it final: it is the root, or a supermajority link
 // leads from it to a direct child.
@@ -32,10 +30,10 @@ pub fn statuses(w: Witness) -> Analysis
 {
     let members = w.member_count;
     let places = w.checkpoint_count;
-    let sources = w.sources;
     let parents = w.parents;
     let b = votes::prepare(w);
     let who = b.who;
+    let from = b.from;
     let head = b.head;
     let next = b.next;
     let quota = b.quota;
@@ -45,13 +43,18 @@ pub fn statuses(w: Witness) -> Analysis
     finalizing[0] = true;
     let mut t: usize = 1;
     while t < places {
-        let tally = votes::gather(&who, sources, &next, head[t]);
+        let mut lo = [0u64; MAX_CHECKPOINTS];
+        let mut hi = [0u64; MAX_CHECKPOINTS];
+        votes::gather(&who, &from, &next, head[t], &mut lo, &mut hi);
         let to = t as u16;
-        let reached = links::reaches(tally, &justified, Place(to), &w.bonds, members, quota);
+        let reached = links::reaches(&lo, &hi, &justified, Place(to), &w.bonds, members, quota);
         justified[t] = reached;
         let parent = parents[t];
         let p = parent.0 as usize;
-        let v = tally[p];
+        let v = Voters {
+            lo: lo[p],
+            hi: hi[p],
+        };
         finalizing[p] = finalizing[p] | voters::carries(v, &w.bonds, members, quota);
         t += 1;
     }
@@ -61,10 +64,10 @@ pub fn statuses(w: Witness) -> Analysis
     }
 }
 
-// The standing of a held place, by the analysis of its model.
+// The standing of a place, by an analysis.
 pub fn status_of(a: Analysis, p: Place) -> Status
     requires { ⌜ p .0 < checkpointLimit ⌝ }
-    ensures { λ r. ⌜ ((m : Model) → IsAnalysis m a → p .0 < length (m .checkpoints) → r ≡ status m (p .0)) ⌝ }
+    ensures { λ r. ⌜ r ≡ statusIn a (p .0) ⌝ }
 {
     let at = p.0 as usize;
     if a.justified[at] {

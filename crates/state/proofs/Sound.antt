@@ -1,15 +1,15 @@
 -- What a sound state says: row 40's test passes it; the counts fit, parents stand at smaller places, no height is
 -- large, and each vote is between held places.
-use Prim.Native.Nat.{ℕ, zero, suc, _+_, _<_, _≤_, _^_}
+use Prim.Native.Nat.{ℕ, _<_, _≤_, _^_}
 use native.Mathlib.Omega.{arith}
 use mathlib.Core.Path.{_≡_, sym, ap, subst, _∙_}
-use mathlib.Core.List.{List}
 use mathlib.Core.Bool.{true}
 use lib.ListN.{length}
-use Rattle.model.specs.Limits.{memberLimit, checkpointLimit, voteLimit, rootHeightLimit}
-use Rattle.model.specs.Model.{Member, Checkpoint, Vote, memberAt, voteAt, heightOf, parentOf}
-use Rattle.model.specs.WellFormed.{GoodTree, GoodVote}
+use Rattle.model.specs.Limits.{memberLimit, checkpointLimit, voteLimit}
+use Rattle.model.specs.Model.{Member, Checkpoint, Vote, memberAt, voteAt, heightOf}
+use Rattle.model.specs.WellFormed.{GoodVote}
 use Rattle.model.proofs.Sound.{well-formed-true, true-well-formed}
+use Rattle.model.proofs.Tree.{height-low}
 use Rattle.tables.specs.Places.{Falling, placeAt, heightAt}
 use Rattle.state.specs.Sound.{Typed, Sound, sound?}
 use Rattle.state.specs.State.{voteIn, modelOf}
@@ -17,15 +17,6 @@ use Rattle.state.specs.Tables.{Low}
 use Rattle.state.specs.declared.Witness.{Witness}
 use Rattle.state.proofs.Entries.{count-members, count-checkpoints, count-votes}
 use Rattle.state.proofs.Entries.{member-is, checkpoint-is, vote-is}
-
--- a checkpoint is at most as high above the root as its place says
-low : (cs : List Checkpoint) → GoodTree cs → (n i : ℕ) → i < n → i < length cs → heightOf cs i ≤ rootHeightLimit + i
-low cs good zero i h l = absurd (omega arith)
-low cs good (suc n) zero h l = omega (arith, good .root-height)
-low cs good (suc n) (suc i) h l =
-    let p = parentOf cs (suc i) in
-    let below = good .parent (suc i) (omega arith) l in
-    omega (arith, good .height (suc i) (omega arith) l, low cs good n p (omega arith) (omega arith), below)
 
 module _ (w : Witness) where
   pub sound-true : Typed w → sound? w ≡ true → Sound w
@@ -64,7 +55,12 @@ module _ (w : Witness) (s : Sound w) where
   pub low-heights : Low (w .«checkpoint_count») (w .heights)
   low-heights i h =
       let below : i < length (modelOf w .checkpoints) = omega (arith, count-checkpoints w) in
-      omega (arith, low (modelOf w .checkpoints) (s .good .tree) (suc i) i (omega arith) below, ap (λ (c : Checkpoint). c .height) (checkpoint-is w i h))
+      omega (
+        arith,
+        height-low (modelOf w .checkpoints) (s .good .tree) i below,
+        ap (λ (c : Checkpoint). c .height)
+            (checkpoint-is w i h),
+      )
 
   -- the votes, as the arrays hold them
   module _ (k : ℕ) (h : k < w .«vote_count») where

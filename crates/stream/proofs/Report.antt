@@ -19,11 +19,12 @@ use Rattle.report.specs.Feed.{Paused, wants, full, outOfNumbers, ended, refused
 use Rattle.report.specs.Pieces.{Piece, onward, inWant?, fedText, lastPause, endPause}
 use Rattle.report.proofs.Pieces.{in-pieces}
 use Rattle.buffered.specs.Hold.{ready?, IsFilled}
-use Rattle.stream.specs.Reads.{Starts, Turned, Reached, at-start, one-more, WritesReport}
-use Rattle.stream.specs.Turns.{callOf, fateOf, atHand, callAt, fateAt, Called, Refilled}
-use Rattle.stream.specs.declared.Fate.{Fate}
-use Rattle.stream.specs.declared.Fate.the-variants.{Open, Whole, Ended, Failed}
-use Rattle.stream.specs.declared.Turn.{Turn}
+use Rattle.turns.specs.Turns.{Starts, fateOf, Refilled}
+use Rattle.turns.specs.declared.Fate.{Fate}
+use Rattle.turns.specs.declared.Fate.the-variants.{Open, Whole, Ended, Failed}
+use Rattle.turns.specs.declared.Turn.{Turn}
+use Rattle.stream.specs.Reads.{Turned, Reached, at-start, one-more, WritesReport}
+use Rattle.stream.specs.Turns.{callOf, atHand, callAt, fateAt, Called}
 
 -- ---- what follows a pause
 

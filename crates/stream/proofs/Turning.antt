@@ -12,12 +12,13 @@ use Rattle.report.specs.Feed.{pausedOf, feedCall, openCall, IsFed}
 use Rattle.report.specs.declared.Fed.{Fed}
 use Rattle.report.proofs.Inside.{feed-passes, open-passes}
 use Rattle.buffered.specs.Hold.{ready?}
+use Rattle.turns.specs.Turns.{fateOf, Refilled, toldAs, Told}
+use Rattle.turns.specs.declared.Fate.{Fate}
+use Rattle.turns.specs.declared.Fate.the-variants.{Open, Failed}
+use Rattle.turns.specs.declared.Turn.{Turn}
 use Rattle.stream.specs.Reads.{one-more, Reads, Leaves, IsRead}
-use Rattle.stream.specs.Turns.{callOf, fateOf, atHand, callAt, fateAt, Advanced, Refilled, Stepped, toldAs, Told}
-use Rattle.stream.specs.declared.Fate.{Fate}
-use Rattle.stream.specs.declared.Fate.the-variants.{Open, Failed}
+use Rattle.stream.specs.Turns.{callOf, atHand, callAt, fateAt, Advanced, Stepped}
 use Rattle.stream.specs.declared.Log.{Log}
-use Rattle.stream.specs.declared.Turn.{Turn}
 
 -- ---- the call
 
@@ -38,14 +39,6 @@ module _ (begun atEnd : Bool) (room : ℕ) (w : Witness) (k : ℕ) (s : List ℕ
       go false = open-passes atEnd room w s
 
 -- ---- one turn
-
--- something failed, or nothing did
-pub failed-or-not : (failed : Bool) (fate r : Fate) → r ≡ cond failed Failed fate → (r ≡ fate) ⊎ (r ≡ Failed)
-failed-or-not true fate r e = inr e
-failed-or-not false fate r e = inl e
-
-pub told : (t : Turn) (failed : Bool) (r : Fate) → r ≡ cond failed Failed (t .fate) → Told t (toldAs t r)
-told t failed r e = ⊎-elim (λ p. inl (ap (toldAs t) p)) (λ p. inr (ap (toldAs t) p)) (failed-or-not failed (t .fate) r e)
 
 module _ (t : Turn) (input output : List ℕ) where
   -- a call, and its rest moved to the front

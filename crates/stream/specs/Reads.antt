@@ -9,17 +9,11 @@ use Rattle.model.specs.Report.{report}
 use Rattle.report.specs.Feed.{lineRoom, endCall}
 use Rattle.report.specs.Pieces.{inWant?}
 use Rattle.buffered.specs.Hold.{ready?}
+use Rattle.turns.specs.Turns.{Starts}
+use Rattle.turns.specs.declared.Fate.the-variants.{Open, Whole, Ended}
+use Rattle.turns.specs.declared.Turn.{Turn}
 use Rattle.stream.specs.Turns.{atHand, callAt, Stepped}
-use Rattle.stream.specs.declared.Fate.the-variants.{Open, Whole, Ended}
 use Rattle.stream.specs.declared.Log.{Log}
-use Rattle.stream.specs.declared.Turn.{Turn}
-
--- nothing was read yet; the record number and the witness are set by the first call
-pub record Starts (t : Turn) : Type 0 where
-  pub fate : t .fate ≡ Open
-  pub begun : t .begun ≡ false
-  pub at-end : t .«at_end» ≡ false
-  pub have : t .have ≡ 0
 
 -- One turn more: a read adds the bytes that it brought to the log, and a call adds its text to what was written.
 pub record Turned (room : ℕ) (log text : List ℕ) (t : Turn) (input log′ text′ : List ℕ) (r : Turn) (after : List ℕ) : Type 0 where

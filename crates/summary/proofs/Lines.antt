@@ -21,26 +21,24 @@ use Rattle.conduct.specs.Held.{Ordered}
 use Rattle.evidence.proofs.Bytes.{flat-snoc}
 use Rattle.conduct.proofs.Members.{ids-held}
 use Rattle.text.specs.Put.{Put}
-use Rattle.text.proofs.Putting.{none, spelled, next}
+use Rattle.text.proofs.Putting.{none, spelled, next, concat-more}
 
 -- the line of the member at a place
 abbrev pub lineAt : Witness → ℕ → List ℕ
 lineAt w p = memberLine (modelOf w) (memberAt (modelOf w .members) p)
 
 module _ (w : Witness) (l : List ℕ) (at : ℕ) where
-  pub checkpoints-none : at ≤ length l → Put l at (checkpointLines (modelOf w) 0) l at
-  unfolding checkpointLines
-  checkpoints-none fits = none l at fits
-
-  pub checkpoints-more : (p : ℕ) {s : Status} {m o : List ℕ} {n k : ℕ} → p < w .«checkpoint_count» → s ≡ status (modelOf w) p
+  pub checkpoints-more : (p : ℕ) {s : Status} {m o : List ℕ} {n k : ℕ}
+      → p < w .«checkpoint_count»
+      → s ≡ status (modelOf w) p
       → Put l at (checkpointLines (modelOf w) p) m n
       → Put m n (checkpointText p (getD (w .heights) p (height 0) .0) s) o k
       → Put l at (checkpointLines (modelOf w) (p + 1)) o k
-  unfolding checkpointLines checkpointLine
+  unfolding checkpointLine
   checkpoints-more p inside stands before line =
-      spelled (next before line)
-      (ap₂ (λ (h : ℕ) (s : Status). checkpointLines (modelOf w) p ++ checkpointText p h s) (sym (ap (λ (c : Checkpoint). c .height) (checkpoint-is w p inside))) stands
-      ∙ ap (checkpointLines (modelOf w)) (sym (add-one p)))
+      concat-more (checkpointLine (modelOf w)) p before
+      (spelled line
+      (ap₂ (checkpointText p) (sym (ap (λ (c : Checkpoint). c .height) (checkpoint-is w p inside))) stands))
 
   pub members-none : at ≤ length l → Put l at (flatMap (lineAt w) []) l at
   unfolding flatMap

@@ -2,9 +2,8 @@
 -- of the links to it.
 use Prim.Native.Nat.{ℕ, _<_, _≤_}
 use native.Mathlib.Omega.{arith}
-use mathlib.Core.Path.{_≡_, sym, ap, _∙_}
+use mathlib.Core.Path.{_≡_, sym, ap, ap₂, _∙_}
 use mathlib.Core.Logic.{⊎-elim}
-use mathlib.Core.List.{List}
 use mathlib.Core.Bool.{Bool, false, _&&_, and-comm}
 use borrow.Author.Tests.{eq-eqb, ne-eqb, eqb-true, eqb-false}
 use lib.Dec.{eqb}
@@ -82,7 +81,7 @@ module _ {w : Witness} {b : Ballots} (r : Ready w b) where
 
   -- vote k is of the member at place i, for the link s → t
   abbrev backs : ℕ → ℕ → ℕ → ℕ → Bool
-  backs s t i k = aims (w .targets) t k && casts (b .who) (w .sources) s i k
+  backs s t i k = aims (w .targets) t k && casts (b .who) (b .from) s i k
 
   -- such a vote makes that member a supporter
   voted : (s t i : ℕ) → i < w .«member_count»
@@ -92,7 +91,7 @@ module _ {w : Witness} {b : Ballots} (r : Ready w b) where
       let vote = voteFor (getD (w .ids) i 0) s t in
       any-same (w .«vote_count») (backs s t i) (λ k. sameVote (voteIn w k) vote)
       (λ k h.
-      ap (λ (x : Bool). aims (w .targets) t k && (x && eqb (placeAt (w .sources) k) s)) (same-member k i h l)
+      ap₂ (λ (x : Bool) (p : ℕ). aims (w .targets) t k && (x && eqb p s)) (same-member k i h l) (r .sourced k h)
       ∙ and-comm (aims (w .targets) t k) (eqb (id k) (vote .voter) && eqb (placeAt (w .sources) k) s))
       ∙ sym (any-tabulate (λ v. sameVote v vote) (w .«vote_count») (voteIn w))
 
@@ -103,21 +102,21 @@ module _ {w : Witness} {b : Ballots} (r : Ready w b) where
       none : Below (w .«vote_count») (backs s t i) → ⊥
       none f =
           let k = f .at in
-          let cast = and-right (aims (w .targets) t k) (casts (b .who) (w .sources) s i k) (f .passes) in
-          let voter = and-left (eqb (who k) i) (eqb (placeAt (w .sources) k) s) cast in
+          let cast = and-right (aims (w .targets) t k) (casts (b .who) (b .from) s i k) (f .passes) in
+          let voter = and-left (eqb (who k) i) (eqb (getD (b .from) k 0) s) cast in
           omega (arith, who-held k (f .inside), eqb-true (who k) i voter)
 
   -- what is gathered for a target: the supporters of the link from each source
-  pub backers : (t : ℕ) (tally : List Voters) → t < 512
-      → Tallied (b .who) (w .sources) (b .next) (getD (b .head) t 0) tally
-      → (s : ℕ) → s < 512 → Backers w s t (getD tally s nobody)
+  pub backers : (t : ℕ) (tally : ℕ → Voters) → t < 512
+      → Tallied (b .who) (b .from) (b .next) (getD (b .head) t 0) tally
+      → (s : ℕ) → s < 512 → Backers w s t (tally s)
   backers t tally h all s l =
       record { held = λ i k. is i ∙ voted s t i k; beyond = λ i k. is i ∙ unvoted s t i k }
     where
       n : ℕ
       n = w .«vote_count»
 
-      is : (i : ℕ) → among (getD tally s nobody) i ≡ anyBelow n (backs s t i)
+      is : (i : ℕ) → among (tally s) i ≡ anyBelow n (backs s t i)
       is i =
           let c = r .chained in
           let chain = linked-chain (λ k. placeAt (w .targets) k) (c .linked) t n (omega arith) (c .heads t h) in

@@ -4,3 +4,4 @@ pub mod Weights
 pub mod Totals
 pub mod Backed
 pub mod Ready
+pub mod Heaviest

@@ -3,7 +3,6 @@
 use Prim.Native.Nat.{ℕ, _<_, _≤_}
 use native.Mathlib.Omega.{arith}
 use mathlib.Core.Path.{_≡_, ap, _∙_}
-use mathlib.Core.List.{List}
 use mathlib.Core.Bool.{Bool}
 use lib.ListN.{getD}
 use Rattle.model.specs.Support.{Support, supports, support, link?}
@@ -16,7 +15,7 @@ use Rattle.tally.specs.declared.voters.Voters.{Voters}
 use Rattle.tally.specs.declared.votes.Ballots.{Ballots}
 use Rattle.tally.specs.Ready.{Ready}
 use Rattle.tally.specs.Bits.{among, countBelow}
-use Rattle.tally.specs.Chains.{nobody, aims, Walkable, Tallied}
+use Rattle.tally.specs.Chains.{aims, Walkable, Tallied}
 use Rattle.tally.specs.Weights.{Bonds, Fits, weightOf, enough, carried}
 use Rattle.tally.proofs.Backed.{Backers, who-held, backers}
 use Rattle.tally.proofs.Totals.{bonds-good, quota-fits, count-is, weight-is, carried-is}
@@ -30,14 +29,17 @@ module _ {w : Witness} {b : Ballots} (r : Ready w b) where
   ready-quota = quota-fits w (r .sound) (r .quota)
 
   -- the chain of a target can be walked
-  pub ready-walk : (t : ℕ) → t < 512 → Walkable (b .who) (w .sources) (b .next) (getD (b .head) t 0)
+  pub ready-walk : (t : ℕ) → t < 512 → Walkable (b .who) (b .from) (b .next) (getD (b .head) t 0)
   ready-walk t h =
       record {
         fit = omega (arith, few-votes w (r .sound), low);
         who-long = omega (arith, few-votes w (r .sound), low);
         next-long = omega (arith, few-votes w (r .sound), low, r .chained .linked .long);
         member = λ k l. omega (arith, who-held r k (omega (arith, low)), few-members w (r .sound));
-        source = λ k l. omega (arith, source-held w (r .sound) k (omega (arith, low)), few-checkpoints w (r .sound));
+        from-long = omega (arith, few-votes w (r .sound), low, r .from-long);
+        source = λ k l.
+            let held : k < w .«vote_count» = omega (arith, low) in
+            omega (arith, r .sourced k held, source-held w (r .sound) k held, few-checkpoints w (r .sound));
         earlier = λ k l. linked-earlier (λ i. placeAt (w .targets) i) (r .chained .linked) k (omega (arith, low));
       }
     where
@@ -49,26 +51,26 @@ module _ {w : Witness} {b : Ballots} (r : Ready w b) where
   ready-parent t h l = omega (arith, falling w (r .sound) t h l, few-checkpoints w (r .sound))
 
   -- what is gathered for t
-  module _ (t : ℕ) (tally : List Voters) (h : t < 512)
-      (all : Tallied (b .who) (w .sources) (b .next) (getD (b .head) t 0) tally) (s : ℕ) (l : s < 512) where
-    backed : Backers w s t (getD tally s nobody)
+  module _ (t : ℕ) (tally : ℕ → Voters) (h : t < 512)
+      (all : Tallied (b .who) (b .from) (b .next) (getD (b .head) t 0) tally) (s : ℕ) (l : s < 512) where
+    backed : Backers w s t (tally s)
     backed = backers r t tally h all s l
 
     -- the voters carry a link exactly when it is a supermajority link
-    pub ready-link : carried (w .bonds) (w .«member_count») (b .quota) (getD tally s nobody) ≡ link? (modelOf w) s t
+    pub ready-link : carried (w .bonds) (w .«member_count») (b .quota) (tally s) ≡ link? (modelOf w) s t
     unfolding link?
-    ready-link = carried-is w (supports (modelOf w) s t) (getD tally s nobody) (backed .held) (r .quota) t
+    ready-link = carried-is w (supports (modelOf w) s t) (tally s) (backed .held) (r .quota) t
 
     -- their number, the sum of their bonds, and yes or no
     pub ready-support : {number bonds : ℕ} {yes : Bool}
-        → number ≡ countBelow 128 (among (getD tally s nobody))
-        → bonds ≡ weightOf (w .bonds) (w .«member_count») (getD tally s nobody)
+        → number ≡ countBelow 128 (among (tally s))
+        → bonds ≡ weightOf (w .bonds) (w .«member_count») (tally s)
         → yes ≡ enough bonds (b .quota)
         → _≡_ {A = Support} (record { number = number; bonds = bonds; yes? = yes }) (support (modelOf w) s t)
     unfolding support link?
     ready-support n x y =
         let A = supports (modelOf w) s t in
-        let v = getD tally s nobody in
+        let v = tally s in
         let few = sum-more 128 (w .«member_count») (among v) (λ i. 1) (few-members w (r .sound)) (backed .beyond) in
         λ i.
         record {

@@ -8,12 +8,10 @@ use mathlib.Core.Logic.{⊎-elim}
 use lib.ListN.{getD}
 use Rattle.model.specs.Limits.{bondLimit}
 use Rattle.model.proofs.Lists.{lt-or-ge}
-use Rattle.model.proofs.Support.{no-quorum}
 use Rattle.tally.specs.declared.voters.Voters.{Voters}
-use Rattle.tally.specs.declared.voters.Quota.{Quota}
 use Rattle.tally.specs.Bits.{among, sumBelow}
 use Rattle.tally.specs.Chains.{nobody}
-use Rattle.tally.specs.Weights.{Bonds, weightOf, enough, carried}
+use Rattle.tally.specs.Weights.{Bonds, weightOf}
 use Rattle.tally.proofs.Bits.{among-none, sum-bound}
 
 pub sum-zero : (n : ℕ) (p : ℕ → Bool) (f : ℕ → ℕ) → ((i : ℕ) → i < n → p i ≡ false) → sumBelow n p f ≡ 0
@@ -22,13 +20,10 @@ sum-zero zero p f h = refl
 sum-zero (suc n) p f h = omega (arith, sum-zero n p f (λ i l. h i (omega arith)), ap (λ (b : Bool). cond b (f n) 0) (h n (omega arith)))
 
 module _ (bonds : List ℕ) (members : ℕ) where
-  pub nobody-carries : (quota : Quota) (v : Voters) → v .lo ≡ 0 → v .hi ≡ 0 → false ≡ carried bonds members quota v
-  nobody-carries quota v lo hi =
+  pub nobody-weighs : (v : Voters) → v .lo ≡ 0 → v .hi ≡ 0 → 0 ≡ weightOf bonds members v
+  nobody-weighs v lo hi =
       let e : v ≡ nobody = λ i. record { lo = lo i; hi = hi i } in
-      sym
-      (ap (carried bonds members quota) e
-      ∙ ap (λ (x : ℕ). enough x quota) (sum-zero members (among nobody) (λ i. getD bonds i 0) (λ i h. among-none i))
-      ∙ no-quorum (quota .total))
+      sym (ap (weightOf bonds members) e ∙ sum-zero members (among nobody) (λ i. getD bonds i 0) (λ i h. among-none i))
 
   pub weight-bound : (v : Voters) {weight : ℕ}
       → Bonds bonds members → weight ≡ weightOf bonds members v → weight ≤ 128 * bondLimit

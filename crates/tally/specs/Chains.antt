@@ -4,7 +4,7 @@ use mathlib.Core.Path.{_≡_}
 use mathlib.Core.List.{List}
 use mathlib.Core.Bool.{Bool, _&&_}
 use lib.Dec.{eqb}
-use lib.ListN.{length, getD, take}
+use lib.ListN.{length, getD, take, replicate}
 use Rattle.model.specs.Limits.{memberLimit, checkpointLimit, voteLimit}
 use Rattle.model.specs.Lists.{anyBelow, firstIndex}
 use Rattle.model.specs.declared.Place.{Place}
@@ -16,6 +16,14 @@ use Rattle.tally.specs.Bits.{among}
 -- no voter
 abbrev pub nobody : Voters
 nobody = record { lo = 0; hi = 0 }
+
+-- the voters of the link from s, whose words two arrays have
+abbrev pub votersAt : (lo hi : List ℕ) → ℕ → Voters
+votersAt lo hi s = record { lo = getD lo s 0; hi = getD hi s 0 }
+
+-- an array of words, all 0
+abbrev pub noBits : List ℕ
+noBits = replicate checkpointLimit 0
 
 -- where the member with the id of vote k stands among the first `members`
 abbrev pub memberOf : List ℕ → ℕ → List ℕ → ℕ → ℕ
@@ -29,28 +37,33 @@ Placed ids members voters count who = (k : ℕ) → k < count → getD who k 0 �
 abbrev pub aims : List Place → ℕ → ℕ → Bool
 aims targets t k = eqb (placeAt targets k) t
 
+-- `from` has the places of the first `count` votes' sources
+abbrev pub Sourced : List Place → ℕ → List ℕ → Type 0
+Sourced sources count from = (k : ℕ) → k < count → getD from k 0 ≡ placeAt sources k
+
 -- vote k is of the member at place i, and has the source s
-abbrev pub casts : List ℕ → List Place → ℕ → ℕ → ℕ → Bool
-casts who sources s i k = eqb (getD who k 0) i && eqb (placeAt sources k) s
+abbrev pub casts : List ℕ → List ℕ → ℕ → ℕ → ℕ → Bool
+casts who from s i k = eqb (getD who k 0) i && eqb (getD from k 0) s
 
 -- the first `count` votes are in chains by target
 abbrev pub ByTarget : List Place → ℕ → List ℕ → List ℕ → Type 0
 ByTarget targets count head next = Bucketed (λ k. placeAt targets k) checkpointLimit count head next
 
 -- every vote below n is of a held member, from a held place, and its chain goes on with an earlier one
-pub record Walkable (who : List ℕ) (sources : List Place) (next : List ℕ) (n : ℕ) : Type 0 where
+pub record Walkable (who from next : List ℕ) (n : ℕ) : Type 0 where
   pub fit : n ≤ voteLimit
   pub who-long : n ≤ length who
+  pub from-long : n ≤ length from
   pub next-long : n ≤ length next
   pub member : (k : ℕ) → k < n → getD who k 0 < memberLimit
-  pub source : (k : ℕ) → k < n → placeAt sources k < checkpointLimit
+  pub source : (k : ℕ) → k < n → getD from k 0 < checkpointLimit
   pub earlier : (k : ℕ) → k < n → getD next k 0 ≤ k
 
--- `tally` has the voters of each source's link, by the votes of the chain that begins with `from`
-abbrev pub Tallied : List ℕ → List Place → List ℕ → ℕ → List Voters → Type 0
-Tallied who sources next from tally =
+-- `tally` gives the voters of each source's link, by the votes of the chain that begins with `first`
+abbrev pub Tallied : List ℕ → List ℕ → List ℕ → ℕ → (ℕ → Voters) → Type 0
+Tallied who from next first tally =
     (on : ℕ → Bool) (count : ℕ)
-    → Chain on count next from
+    → Chain on count next first
     → (s i : ℕ)
     → s < checkpointLimit
-    → among (getD tally s nobody) i ≡ anyBelow count (λ k. on k && casts who sources s i k)
+    → among (tally s) i ≡ anyBelow count (λ k. on k && casts who from s i k)

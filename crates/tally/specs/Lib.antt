@@ -1,5 +1,5 @@
 -- What the functions of the tally say.
 pub mod Bits
-pub mod Weights
 pub mod Chains
+pub mod Weights
 pub mod Ready

@@ -7,12 +7,13 @@ use model::MAX_CHECKPOINTS;
 use model::MAX_VOTES;
 use model::Place;
 use state::Witness;
+ghost use mathlib.Core.Path.{_≡_};
 ghost use Prim.Native.Nat.{ℕ, _≤_, _<_};
 ghost use lib.ListN.{length};
 ghost use Rattle.model.specs.Limits.{memberLimit, checkpointLimit, voteLimit};
 ghost use Rattle.tables.specs.Places.{placeAt};
 ghost use Rattle.state.specs.Sound.{Sound};
-ghost use Rattle.tally.specs.Chains.{Placed, ByTarget, Walkable, Tallied};
+ghost use Rattle.tally.specs.Chains.{noBits, votersAt, Placed, Sourced, ByTarget, Walkable, Tallied};
 ghost use Rattle.tally.specs.Ready.{Ready};
 
 // The place of each vote's member.
@@ -31,6 +32,21 @@ pub fn member_places<'a>(
     let mut k: usize = 0;
     while k < count {
         places[k] = tables::find_id(ids, members, voters[k]) as u16;
+        k += 1;
+    }
+    places
+}
+
+// The place of each vote's source. An array of numbers can be lent, and one of places cannot.
+pub fn source_places(sources: [Place; MAX_VOTES], count: usize) -> [u16; MAX_VOTES]
+    requires { ⌜ count ≤ voteLimit ⌝ }
+    ensures { λ r. ⌜ Sourced sources count r ⌝ }
+{
+    let mut places = [0u16; MAX_VOTES];
+    let mut k: usize = 0;
+    while k < count {
+        let s = sources[k];
+        places[k] = s.0;
         k += 1;
     }
     places
@@ -61,9 +77,11 @@ pub fn bucket(targets: [Place; MAX_VOTES], count: usize) -> Buckets
     Buckets { head, next }
 }
 
-// The votes of a witness, ready to be counted: the place of each vote's member, the votes in chains, and the quota.
+// The votes of a witness, ready to be counted: the places of each vote's member and source, the votes in chains, and
+// the quota.
 pub struct Ballots {
     pub who: [u16; MAX_VOTES],
+    pub from: [u16; MAX_VOTES],
     pub head: [u16; MAX_CHECKPOINTS],
     pub next: [u16; MAX_VOTES],
     pub quota: Quota,
@@ -76,8 +94,10 @@ pub fn prepare(w: Witness) -> Ballots
 {
     let members = w.member_count;
     let votes = w.vote_count;
+    let sources = w.sources;
     let targets = w.targets;
     let who = member_places(&w.ids, members, &w.voters, votes);
+    let from = source_places(sources, votes);
     let chains = bucket(targets, votes);
     let head = chains.head;
     let next = chains.next;
@@ -85,31 +105,40 @@ pub fn prepare(w: Witness) -> Ballots
     let quota = Quota { total };
     Ballots {
         who,
+        from,
         head,
         next,
         quota,
     }
 }
 
-// The voters of each source's link, by the chain of one target's votes.
+// The voters of each source's link, by the chain of one target's votes, into two arrays of zeros: `lo` and `hi` of
+// `Voters`.
 pub fn gather<'a>(
     who: &'a [u16],
-    sources: [Place; MAX_VOTES],
+    from: &'a [u16],
     next: &'a [u16],
-    from: u16,
-) -> [Voters; MAX_CHECKPOINTS]
-    requires { ⌜ Walkable (now who) sources (now next) from ⌝ }
-    ensures { λ r. ⌜ Tallied (now (who .entry)) sources (now (next .entry)) from r ⌝ }
+    first: u16,
+    lo: &mut [u64],
+    hi: &mut [u64],
+)
+    requires { ⌜ Walkable (now who) (now from) (now next) first × (now lo ≡ noBits) × (now hi ≡ noBits) ⌝ }
+    ensures { λ _. ⌜
+        Tallied (now (who .entry)) (now (from .entry)) (now (next .entry)) first
+        (votersAt (now (lo .exit)) (now (hi .exit)))
+        ⌝ }
 {
-    let mut tally = [Voters { lo: 0, hi: 0 }; MAX_CHECKPOINTS];
-    let mut at = from;
+    let mut at = first;
     while 0 < at {
         let k = (at - 1) as usize;
-        let s = sources[k];
-        let source = s.0 as usize;
-        let v = tally[source];
-        tally[source] = insert(v, who[k] as usize);
+        let source = from[k] as usize;
+        let before = Voters {
+            lo: lo[source],
+            hi: hi[source],
+        };
+        let v = insert(before, who[k] as usize);
+        lo[source] = v.lo;
+        hi[source] = v.hi;
         at = next[k];
     }
-    tally
 }

@@ -6,6 +6,7 @@ use mathlib.Core.Path.{_≡_, sym, ap, ap₂, subst, _∙_}
 use mathlib.Core.List.{List, [], _++_, append-assoc, append-nil}
 use lib.ListN.{length, take, drop, set, getD, length-append, length-drop, take-append-drop}
 use lib.Seq.{length-take-le, take-all, take-at, drop-at, drop-drop, paste, paste-suc}
+use Rattle.model.specs.Lists.{concatBelow}
 use Rattle.text.specs.Put.{Put}
 
 -- one more byte of the text
@@ -68,3 +69,15 @@ module _ {l m : List ℕ} {at n : ℕ} {a : List ℕ} (first : Put l at a m n) w
 -- an ending, written as one piece, is that of an answer between two other texts
 pub ended : {l m o : List ℕ} {at n k : ℕ} {a : List ℕ} {A : Type 0} (f : A → List ℕ) (b d : List ℕ) {s t : A} → s ≡ t → Put l at a m n → Put m n (b ++ f t ++ d) o k → Put l at (a ++ b ++ f s ++ d) o k
 ended {a = a} f b d told first ending = spelled (next first ending) (ap (λ t. a ++ (b ++ f t ++ d)) (sym told) ∙ simp append-assoc)
+
+-- the pieces that a function gives, one after another
+
+module _ (f : ℕ → List ℕ) {l : List ℕ} {at : ℕ} where
+  pub concat-none : at ≤ length l → Put l at (concatBelow 0 f) l at
+  unfolding concatBelow
+  concat-none fits = none l at fits
+
+  pub concat-more : (i : ℕ) {m o : List ℕ} {n k : ℕ}
+      → Put l at (concatBelow i f) m n → Put m n (f i) o k → Put l at (concatBelow (i + 1) f) o k
+  unfolding concatBelow
+  concat-more i before piece = spelled (next before piece) (ap (λ (j : ℕ). concatBelow j f) (sym (add-one i)))

@@ -5,17 +5,15 @@ use mathlib.Core.List.{List}
 use mathlib.Core.Bool.{Bool, true, false, _&&_, not}
 use lib.Dec.{ltb}
 use Rattle.model.specs.Answer.{refused, answer, row}
-use Rattle.model.specs.Buffer.{writeText, bufferAfter}
-use Rattle.model.specs.Evidence.{ourList}
+use Rattle.model.specs.Buffer.{writeText, bufferAfter, Written, writeAnswerOf}
 use Rattle.model.specs.Finality.{status, statusAt, conflicting?}
-use Rattle.model.specs.Model.{placeHeld}
+use Rattle.model.specs.Model.{Model, placeHeld}
 use Rattle.model.specs.Support.{support, supportAt}
 use Rattle.state.specs.Sound.{sound?}
 use Rattle.state.specs.State.{modelOf}
 use Rattle.state.specs.declared.Witness.{Witness}
 use Rattle.state.proofs.Entries.{count-checkpoints}
-use Rattle.evidence.specs.Listed.{Written, listAnswerOf}
-use Rattle.evidence.specs.declared.ListAnswer.{ListAnswer}
+use Rattle.model.specs.declared.WriteAnswer.{WriteAnswer}
 use Rattle.witness.specs.Calls.{statusCall, supportCall, conflictCall, writeCall, writeBuffer}
 use Rattle.witness.proofs.Guarded.{on-unsound, on-sound}
 
@@ -40,13 +38,14 @@ module _ (w : Witness) where
     unfolding conflictCall
     conflict-is = sym (on-sound w (λ m. answer (conflicting? m)) e)
 
-    -- the list call, from what the list writer says
-    pub list-is : (buffer : List ℕ) {r : ListAnswer} {left : List ℕ} → Written (ourList (modelOf w)) buffer r left
-        → (listAnswerOf r ≡ writeCall ourList w buffer) × (left ≡ writeBuffer ourList w buffer)
+    -- a call that writes a text, from what its writer says
+    pub write-is : (text : Model → List ℕ) (buffer : List ℕ) {r : WriteAnswer} {left : List ℕ}
+        → Written (text (modelOf w)) buffer r left
+        → (writeAnswerOf r ≡ writeCall text w buffer) × (left ≡ writeBuffer text w buffer)
     unfolding writeCall writeBuffer
-    list-is buffer written =
-        let call = sym (on-sound w (λ m. writeText (ourList m) buffer) e) in
-        (written .answered ∙ call, written .buffer ∙ ap (bufferAfter (ourList (modelOf w)) buffer) call)
+    write-is text buffer written =
+        let call = sym (on-sound w (λ m. writeText (text m) buffer) e) in
+        (written .answered ∙ call, written .buffer ∙ ap (bufferAfter (text (modelOf w)) buffer) call)
 
   module _ (e : sound? w ≡ false) where
     pub status-40 : (p : ℕ) → refused 40 ≡ statusCall w p
@@ -61,6 +60,7 @@ module _ (w : Witness) where
     unfolding conflictCall
     conflict-40 = sym (on-unsound w _ e)
 
-    pub list-40 : (buffer : List ℕ) → (refused 40 ≡ writeCall ourList w buffer) × (buffer ≡ writeBuffer ourList w buffer)
+    pub write-40 : (text : Model → List ℕ) (buffer : List ℕ)
+        → (refused 40 ≡ writeCall text w buffer) × (buffer ≡ writeBuffer text w buffer)
     unfolding writeCall writeBuffer bufferAfter
-    list-40 buffer = let call = sym (on-unsound w _ e) in (call, ap (bufferAfter (ourList (modelOf w)) buffer) call)
+    write-40 text buffer = let call = sym (on-unsound w _ e) in (call, ap (bufferAfter (text (modelOf w)) buffer) call)

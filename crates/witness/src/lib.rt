@@ -1,10 +1,10 @@
 // The public calls of the witness. None asks anything of its caller: what is handed in is checked.
 use checker::CheckAnswer;
-use evidence::ListAnswer;
 use finality::Backing;
 use model::Place;
 use model::Refusal;
 use model::Status;
+use model::WriteAnswer;
 use reader::Batch;
 use reader::End;
 use state::Beginning;
@@ -14,14 +14,16 @@ use state::Witness;
 ghost use mathlib.Core.Path.{_≡_};
 ghost use Prim.Native.Nat.{_+_};
 ghost use lib.ListN.{length, drop};
+ghost use Rattle.model.specs.Answer.{refused};
+ghost use Rattle.model.specs.Buffer.{writeAnswerOf};
 ghost use Rattle.model.specs.Bytes.{part};
 ghost use Rattle.model.specs.Evidence.{ourList};
 ghost use Rattle.model.specs.Log.{header};
+ghost use Rattle.model.specs.Paper.{paper};
 ghost use Rattle.model.specs.Run.{reading};
 ghost use Rattle.state.specs.Reading.{IsReading, IsBeginning};
 ghost use Rattle.reader.specs.Many.{IsBatch};
 ghost use Rattle.checker.specs.Check.{checkOf};
-ghost use Rattle.evidence.specs.Listed.{listAnswerOf};
 ghost use Rattle.witness.specs.Calls.{eventCall, checkCall, statusCall, supportCall};
 ghost use Rattle.witness.specs.Readings.{passed, manyCall};
 ghost use Rattle.witness.specs.Calls.{conflictCall, writeCall, writeBuffer};
@@ -143,15 +145,37 @@ pub fn conflict(w: Witness) -> ConflictAnswer
     ConflictAnswer::Is(finality::conflict(w))
 }
 
-// Our list of charges into a lent buffer: its length; 60 where the buffer is shorter, which is then unwritten.
-pub fn write_list(w: Witness, buf: &mut [u8]) -> ListAnswer
+// Row 40, of the calls that write a text.
+fn refuse_to_write() -> WriteAnswer
+    ensures { λ r. ⌜ writeAnswerOf r ≡ refused 40 ⌝ }
+{
+    WriteAnswer::Refused(Refusal::UnsoundState)
+}
+
+// Our list of charges into a lent buffer: row 40, then 60 where the buffer is shorter, which leave it unwritten; else
+// the list's length.
+pub fn write_list(w: Witness, buf: &mut [u8]) -> WriteAnswer
     ensures { λ r. ⌜
-        (listAnswerOf r ≡ writeCall ourList w (now (buf .entry)))
+        (writeAnswerOf r ≡ writeCall ourList w (now (buf .entry)))
         × (now (buf .exit) ≡ writeBuffer ourList w (now (buf .entry)))
         ⌝ }
 {
     if !sound::is_sound(w) {
-        return ListAnswer::Refused(Refusal::UnsoundState);
+        return refuse_to_write();
     }
     evidence::our_list(w, buf)
+}
+
+// The board paper into a lent buffer: row 40, then 60 where the buffer is shorter, which leave it unwritten; else the
+// paper's length.
+pub fn write_paper(w: Witness, buf: &mut [u8]) -> WriteAnswer
+    ensures { λ r. ⌜
+        (writeAnswerOf r ≡ writeCall paper w (now (buf .entry)))
+        × (now (buf .exit) ≡ writeBuffer paper w (now (buf .entry)))
+        ⌝ }
+{
+    if !sound::is_sound(w) {
+        return refuse_to_write();
+    }
+    board::write_paper(w, buf)
 }

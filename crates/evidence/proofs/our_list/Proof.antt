@@ -3,8 +3,8 @@ use Prim.Native.Nat.{ℕ}
 use mathlib.Core.Path.{ap, subst}
 use mathlib.Core.List.{List}
 use borrow.Author.Needs.{needs}
+use Rattle.model.specs.Buffer.{Written}
 use Rattle.model.specs.Evidence.{listBytes, ourList}
-use Rattle.evidence.specs.Listed.{Written}
 use Rattle.evidence.proofs.our_list.Statement.{statement}
 use Rattle.evidence.proofs.our_list.Tie as tie
 

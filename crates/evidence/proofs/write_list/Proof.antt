@@ -2,8 +2,9 @@
 use native.Mathlib.Omega.{arith}
 use mathlib.Core.Path.{sym}
 use borrow.Author.Needs.{needs}
+use Rattle.model.proofs.Buffer.{too-short, all-written}
 use Rattle.evidence.specs.Listed.{chargesOf}
-use Rattle.evidence.proofs.Bytes.{count-charges, length-list, list-done, too-short, all-written}
+use Rattle.evidence.proofs.Bytes.{count-charges, length-list, list-done}
 use Rattle.evidence.proofs.write_list.Statement.{statement}
 use Rattle.evidence.proofs.write_list.Tie as tie
 

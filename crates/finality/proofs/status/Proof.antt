@@ -1,9 +1,11 @@
 -- `finality::status` meets its contract: the analysis of the witness's model says it. Assumes nothing.
 use native.Mathlib.Omega.{arith}
+use mathlib.Core.Path.{_∙_}
 use borrow.Author.Needs.{needs}
 use Rattle.state.specs.State.{modelOf}
 use Rattle.state.proofs.Entries.{count-checkpoints}
 use Rattle.state.proofs.Sound.{few-checkpoints}
+use Rattle.standing.proofs.Standing.{status-is}
 use Rattle.finality.proofs.status.Statement.{statement}
 use Rattle.finality.proofs.status.Tie as tie
 
@@ -17,7 +19,8 @@ returns : tie.Need-returns
 returns c =
     let start = c .before .before in
     let w = start .args .w in
-    c .status-of .ensures (modelOf w) (c .before .statuses .ensures) (omega (arith, start .pre .1, count-checkpoints w))
+    c .status-of .ensures
+    ∙ status-is (modelOf w) _ (c .before .statuses .ensures) _ (omega (arith, start .pre .1, count-checkpoints w))
 
 pub status-spec : {M : Type 1} → statement M
 status-spec = tie.close (tie.spec statuses-requires status-of-requires returns)

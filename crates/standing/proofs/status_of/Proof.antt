@@ -1,8 +1,6 @@
 -- `standing::status_of` meets its contract. Assumes nothing.
-use mathlib.Core.Path.{refl}
-use mathlib.Core.Bool.{true, false}
 use borrow.Author.Needs.{needs}
-use Rattle.standing.proofs.Standing.{standing}
+use Rattle.standing.specs.Answers.{statusIn}
 use Rattle.standing.proofs.status_of.Statement.{statement}
 use Rattle.standing.proofs.status_of.Tie as tie
 
@@ -16,13 +14,16 @@ element-copy-out-if2 : tie.Need-element-copy-out-if2
 element-copy-out-if2 c = search needs
 
 returns : tie.Need-returns
-returns c = λ m is h. standing m _ is _ h true true (c .before .before .if1 .taken) (c .if2 .taken)
+unfolding statusIn
+returns c = rw (c .before .before .if1 .taken, c .if2 .taken)
 
 returns-2 : tie.Need-returns-2
-returns-2 c = λ m is h. standing m _ is _ h true false (c .before .before .if1 .taken) (c .if2 .left)
+unfolding statusIn
+returns-2 c = rw (c .before .before .if1 .taken, c .if2 .left)
 
 returns-3 : tie.Need-returns-3
-returns-3 c = λ m is h. standing m _ is _ h false _ (c .if1 .left) refl
+unfolding statusIn
+returns-3 c = rw (c .if1 .left)
 
 pub status-of-spec : {M : Type 1} → statement M
 status-of-spec =

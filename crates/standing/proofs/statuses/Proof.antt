@@ -2,6 +2,7 @@
 -- marked. Assumes nothing.
 use Prim.Native.Nat.{_-_}
 use native.Mathlib.Omega.{arith}
+use mathlib.Core.Path.{refl}
 use borrow.Author.Needs.{needs}
 use Rattle.tally.proofs.Ready.{ready-bonds, ready-quota}
 use Rattle.standing.proofs.Turns.{Turn, turn-first, turn-walk, turn-parent, turn-more, turn-last}
@@ -9,20 +10,20 @@ use Rattle.standing.proofs.statuses.Statement.{statement}
 use Rattle.standing.proofs.statuses.Tie as tie
 
 abbrev Inv-loop : tie.InvT-loop
-Inv-loop w members places sources parents who head next quota justified₀ finalizing₀ t₀ justified finalizing t =
-    Turn w (record { who = who; head = head; next = next; quota = quota }) justified finalizing t
+Inv-loop w members places parents who from head next quota justified₀ finalizing₀ t₀ justified finalizing t =
+    Turn w (record { who = who; from = from; head = head; next = next; quota = quota }) justified finalizing t
 
 abbrev μ-loop : tie.MeasureT-loop
-μ-loop w members places sources parents who head next quota justified₀ finalizing₀ t₀ justified finalizing t =
+μ-loop w members places parents who from head next quota justified₀ finalizing₀ t₀ justified finalizing t =
     places - t
 
 -- a turn's stations: where the votes for t are gathered, and where it is known whether t is reached
 
 abbrev gathered : tie.After-reaches Inv-loop μ-loop → tie.After-gather Inv-loop μ-loop
-gathered c = c .before .before .before .before .before
+gathered r = r .before .before .before .before .before .before .before .before .before
 
 abbrev reached : tie.After-carries Inv-loop μ-loop → tie.After-reaches Inv-loop μ-loop
-reached c = let v = c .before .before .before .before in v .before .before .before
+reached c = c .before .before .before .before .before .before
 
 prepare-requires : tie.Need-prepare-requires Inv-loop μ-loop
 prepare-requires c κs = search needs
@@ -34,7 +35,7 @@ array-write-finalizing : tie.Need-array-write-finalizing Inv-loop μ-loop
 array-write-finalizing c = omega arith
 
 loop-holds : tie.Need-loop-holds Inv-loop μ-loop
-loop-holds c = turn-first (c .before .before .before .before .prepare .ensures)
+loop-holds c = turn-first (c .before .before .before .before .before .prepare .ensures)
 
 slice-aggregate-gather : tie.Need-slice-aggregate-gather Inv-loop μ-loop
 slice-aggregate-gather c = search needs
@@ -42,23 +43,41 @@ slice-aggregate-gather c = search needs
 slice-aggregate-gather-2 : tie.Need-slice-aggregate-gather-2 Inv-loop μ-loop
 slice-aggregate-gather-2 c = search needs
 
+slice-aggregate-gather-3 : tie.Need-slice-aggregate-gather-3 Inv-loop μ-loop
+slice-aggregate-gather-3 c = search needs
+
 mul-gather : tie.Need-mul-gather Inv-loop μ-loop
 mul-gather c = omega arith
 
 array-read-gather : tie.Need-array-read-gather Inv-loop μ-loop
 array-read-gather c = omega arith
 
-gather-requires : tie.Need-gather-requires Inv-loop μ-loop
-gather-requires c κs = let i = c .before .before in turn-walk (i .before .loop .inv) (i .loop-test .taken)
+slice-aggregate-gather-4 : tie.Need-slice-aggregate-gather-4 Inv-loop μ-loop
+slice-aggregate-gather-4 c = search needs
 
-slice-aggregate-reaches : tie.Need-slice-aggregate-reaches Inv-loop μ-loop
-slice-aggregate-reaches c = search needs
+slice-aggregate-gather-5 : tie.Need-slice-aggregate-gather-5 Inv-loop μ-loop
+slice-aggregate-gather-5 c = search needs
+
+gather-requires : tie.Need-gather-requires Inv-loop μ-loop
+gather-requires c κs =
+    let i = c .before .before .before .before .before in
+    (turn-walk (i .before .loop .inv) (i .loop-test .taken), refl, refl)
 
 cast-to : tie.Need-cast-to Inv-loop μ-loop
 cast-to c = omega arith
 
+slice-aggregate-reaches : tie.Need-slice-aggregate-reaches Inv-loop μ-loop
+slice-aggregate-reaches c = search needs
+
+slice-aggregate-reaches-2 : tie.Need-slice-aggregate-reaches-2 Inv-loop μ-loop
+slice-aggregate-reaches-2 c = search needs
+
+slice-aggregate-reaches-3 : tie.Need-slice-aggregate-reaches-3 Inv-loop μ-loop
+slice-aggregate-reaches-3 c = search needs
+
 reaches-requires : tie.Need-reaches-requires Inv-loop μ-loop
-reaches-requires c κs = (omega arith, omega arith, search (needs, ready-bonds), search (needs, ready-quota))
+reaches-requires c κs =
+    (omega arith, omega arith, omega arith, search (needs, ready-bonds), search (needs, ready-quota))
 
 array-write-justified-2 : tie.Need-array-write-justified-2 Inv-loop μ-loop
 array-write-justified-2 c = omega arith
@@ -72,11 +91,17 @@ array-copy-out-parent c = omega arith
 cast-p : tie.Need-cast-p Inv-loop μ-loop
 cast-p c = omega arith
 
-mul-v : tie.Need-mul-v Inv-loop μ-loop
-mul-v c = omega arith
+mul-t36 : tie.Need-mul-t36 Inv-loop μ-loop
+mul-t36 c = omega arith
 
-array-copy-out-v : tie.Need-array-copy-out-v Inv-loop μ-loop
-array-copy-out-v c = search (needs, turn-parent)
+array-read-t59 : tie.Need-array-read-t59 Inv-loop μ-loop
+array-read-t59 c = search (needs, turn-parent)
+
+mul-t60 : tie.Need-mul-t60 Inv-loop μ-loop
+mul-t60 c = omega arith
+
+array-read-t63 : tie.Need-array-read-t63 Inv-loop μ-loop
+array-read-t63 c = search (needs, turn-parent)
 
 array-read-finalizing : tie.Need-array-read-finalizing Inv-loop μ-loop
 array-read-finalizing c = search (needs, turn-parent)
@@ -97,8 +122,8 @@ loop-again : tie.Need-loop-again Inv-loop μ-loop
 loop-again c =
     let r = reached c in
     let g = gathered r in
-    let i = g .before .before .before in
-    turn-more (i .before .loop .inv) (i .loop-test .taken) (g .gather .result) (g .gather .ensures)
+    let i = g .before .before .before .before .before .before in
+    turn-more (i .before .loop .inv) (i .loop-test .taken) _ (g .gather .ensures)
     (r .reaches .ensures)
     (c .carries .ensures)
 
@@ -117,18 +142,25 @@ statuses-spec =
     loop-holds
     slice-aggregate-gather
     slice-aggregate-gather-2
+    slice-aggregate-gather-3
     mul-gather
     array-read-gather
+    slice-aggregate-gather-4
+    slice-aggregate-gather-5
     gather-requires
     cast-to
     slice-aggregate-reaches
+    slice-aggregate-reaches-2
+    slice-aggregate-reaches-3
     reaches-requires
     array-write-justified-2
     mul-parent
     array-copy-out-parent
     cast-p
-    mul-v
-    array-copy-out-v
+    mul-t36
+    array-read-t59
+    mul-t60
+    array-read-t63
     array-read-finalizing
     carries-requires
     array-write-finalizing-2

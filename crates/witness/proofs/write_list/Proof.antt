@@ -1,15 +1,24 @@
 -- `witness::write_list` meets its contract: row 40, then the list writer. Assumes nothing.
+use mathlib.Core.Path.{_∙_}
 use borrow.Author.Needs.{needs}
+use Rattle.model.specs.Evidence.{ourList}
 use Rattle.witness.proofs.Guarded.{passes-40, meets-40, good-state}
-use Rattle.witness.proofs.Placed.{list-40, list-is}
+use Rattle.witness.proofs.Placed.{write-40, write-is}
 use Rattle.witness.proofs.write_list.Statement.{statement}
 use Rattle.witness.proofs.write_list.Tie as tie
 
 is-sound-requires : tie.Need-is-sound-requires
 is-sound-requires c κs = search needs
 
+refuse-to-write-requires : tie.Need-refuse-to-write-requires
+refuse-to-write-requires c κs = search needs
+
 returns : tie.Need-returns
-returns c = let a = c .before .before .before .args in list-40 (a .w) (meets-40 _ (c .before .is-sound .ensures) (c .if1 .taken)) (a .buf .now)
+returns c =
+    let i = c .before in
+    let a = i .before .before .before .args in
+    let so = write-40 (a .w) (meets-40 _ (i .before .is-sound .ensures) (i .if1 .taken)) ourList (a .buf .now) in
+    (c .refuse-to-write .ensures ∙ so .0, so .1)
 
 our-list-requires : tie.Need-our-list-requires
 our-list-requires c κs = (good-state _ (c .before .before .is-sound .ensures) (c .before .if1 .left))
@@ -22,8 +31,9 @@ returns-2 c =
     let written = c .before .before in
     let e = written .before .before in
     let a = e .before .before .before .args in
-    list-is (a .w) (passes-40 _ (e .before .is-sound .ensures) (e .if1 .left)) (a .buf .now) (written .our-list .ensures)
+    write-is (a .w) (passes-40 _ (e .before .is-sound .ensures) (e .if1 .left)) ourList (a .buf .now)
+    (written .our-list .ensures)
 
 pub write-list-spec : {M : Type 1} → statement M
 write-list-spec =
-    tie.close (tie.spec is-sound-requires returns our-list-requires same-length returns-2)
+    tie.close (tie.spec is-sound-requires refuse-to-write-requires returns our-list-requires same-length returns-2)

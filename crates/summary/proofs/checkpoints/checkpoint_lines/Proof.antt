@@ -2,13 +2,15 @@
 use Prim.Native.Nat.{_+_, _*_, _-_, _<_, _≤_}
 use native.Mathlib.Nat.{le-antisymm}
 use native.Mathlib.Omega.{arith}
-use Rattle.model.specs.Report.{checkpointLines}
+use mathlib.Core.Path.{_∙_}
+use Rattle.model.specs.Report.{checkpointLine, checkpointLines}
 use Rattle.state.specs.State.{modelOf}
 use Rattle.state.proofs.Entries.{count-checkpoints}
+use Rattle.standing.proofs.Standing.{status-is}
 use Rattle.text.specs.Put.{Put}
-use Rattle.text.proofs.Putting.{kept}
+use Rattle.text.proofs.Putting.{kept, concat-none}
 use Rattle.state.proofs.Sound.{few-checkpoints}
-use Rattle.summary.proofs.Lines.{checkpoints-none, checkpoints-more}
+use Rattle.summary.proofs.Lines.{checkpoints-more}
 use Rattle.summary.proofs.checkpoints.checkpoint_lines.Statement.{statement}
 use Rattle.summary.proofs.checkpoints.checkpoint_lines.Tie as tie
 
@@ -26,7 +28,9 @@ statuses-requires : tie.Need-statuses-requires Inv-loop μ-loop
 statuses-requires c κs = c .before .pre .0
 
 loop-holds : tie.Need-loop-holds Inv-loop μ-loop
-loop-holds c = let s = c .before .before in (omega arith, omega arith, checkpoints-none (s .args .t1) (s .args .buf .now) (s .args .at) (omega (arith, s .pre .1)))
+loop-holds c =
+    let s = c .before .before in
+    (omega arith, omega arith, concat-none (checkpointLine (modelOf (s .args .t1))) (omega (arith, s .pre .1)))
 
 cast-t13 : tie.Need-cast-t13 Inv-loop μ-loop
 cast-t13 c = omega (arith, below c)
@@ -56,7 +60,8 @@ loop-again c =
     let at = stood .before .before in
     let s = at .before .before .before in
     let w = s .args .t1 in
-    let is = stood .status-of .ensures (modelOf w) (at .before .statuses .ensures) (omega (arith, count-checkpoints w)) in (
+    let is = stood .status-of .ensures
+    ∙ status-is (modelOf w) _ (at .before .statuses .ensures) _ (omega (arith, count-checkpoints w)) in (
       omega arith,
       omega (arith, called .checkpoint-line .ensures .1),
       checkpoints-more w (s .args .buf .now) (s .args .at) (at .loop .p) (stood .before .loop-test .taken) is (at .loop .inv .2) (called .checkpoint-line .ensures .0),

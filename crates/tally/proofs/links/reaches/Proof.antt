@@ -13,29 +13,31 @@ use Rattle.model.proofs.Lists.{found-below, both}
 use Rattle.search.proofs.Below.{any-none, any-more}
 use Rattle.tally.specs.declared.voters.Voters.{Voters}
 use Rattle.tally.specs.declared.voters.Quota.{Quota}
-use Rattle.tally.specs.Chains.{nobody}
+use Rattle.tally.specs.Chains.{votersAt}
 use Rattle.tally.specs.Weights.{carried}
 use Rattle.tally.proofs.links.reaches.Statement.{statement}
 use Rattle.tally.proofs.links.reaches.Tie as tie
 
 -- a source whose link leads on
-abbrev leads : List Bool → List ℕ → ℕ → Quota → List Voters → ℕ → Bool
+abbrev leads : List Bool → List ℕ → ℕ → Quota → (ℕ → Voters) → ℕ → Bool
 leads justified bonds members quota tally k =
-    getD justified k false && carried bonds members quota (getD tally k nobody)
+    getD justified k false && carried bonds members quota (tally k)
 
 abbrev Inv-loop : tie.InvT-loop
-Inv-loop justified bonds members quota tally end s₀ s =
-    (s ≤ end) × (false ≡ anyBelow s (leads justified bonds members quota tally))
+Inv-loop lo hi justified bonds members quota end s₀ s =
+    (s ≤ end) × (false ≡ anyBelow s (leads justified bonds members quota (votersAt lo hi)))
 
 abbrev μ-loop : tie.MeasureT-loop
-μ-loop justified bonds members quota tally end s₀ s = end - s
+μ-loop lo hi justified bonds members quota end s₀ s = end - s
 
 -- a round's start, and the sources that lead on there
 abbrev start : tie.In-loop Inv-loop μ-loop → tie.Start Inv-loop μ-loop
-start r = r .before .before .before .before .before
+start r = r .before .before .before .before .before .before .before
 
 abbrev leading : tie.In-loop Inv-loop μ-loop → ℕ → Bool
-leading r = let a = start r .args in leads (a .justified .now) (a .bonds .now) (a .members) (a .quota) (a .t1)
+leading r =
+    let a = start r .args in leads (a .justified .now) (a .bonds .now) (a .members) (a .quota)
+    (votersAt (a .lo .now) (a .hi .now))
 
 cast-end : tie.Need-cast-end Inv-loop μ-loop
 cast-end c = omega arith
@@ -46,21 +48,27 @@ loop-holds c = (omega arith, any-none false _)
 shared-slice-read-if1 : tie.Need-shared-slice-read-if1 Inv-loop μ-loop
 shared-slice-read-if1 c = omega arith
 
-mul-v : tie.Need-mul-v Inv-loop μ-loop
-mul-v c = omega arith
+mul-t14 : tie.Need-mul-t14 Inv-loop μ-loop
+mul-t14 c = omega arith
 
-array-copy-out-v : tie.Need-array-copy-out-v Inv-loop μ-loop
-array-copy-out-v c = omega arith
+shared-slice-read-t16 : tie.Need-shared-slice-read-t16 Inv-loop μ-loop
+shared-slice-read-t16 c = omega arith
+
+mul-t17 : tie.Need-mul-t17 Inv-loop μ-loop
+mul-t17 c = omega arith
+
+shared-slice-read-t19 : tie.Need-shared-slice-read-t19 Inv-loop μ-loop
+shared-slice-read-t19 c = omega arith
 
 carries-requires : tie.Need-carries-requires Inv-loop μ-loop
 carries-requires c κs = search needs
 
 returns : tie.Need-returns Inv-loop μ-loop
 returns c =
-    let r = c .before .before .before .before .before in
+    let r = c .before .before .before .before .before .before in
     sym
     (found-below (start r .args .t .0) (leading r) (r .before .loop .s) (r .loop-test .taken)
-    (both (c .before .before .before .if1 .taken) (sym (c .before .carries .ensures) ∙ c .if2 .taken)))
+    (both (c .before .before .before .before .if1 .taken) (sym (c .before .carries .ensures) ∙ c .if2 .taken)))
 
 add-s : tie.Need-add-s Inv-loop μ-loop
 add-s c = omega arith
@@ -71,7 +79,7 @@ loop-less c = omega arith
 -- a source passed does not lead on: it is not justified, or its link is not carried
 fails : (c : tie.Joined1 Inv-loop μ-loop) → leading (c .before .before) (c .before .before .before .loop .s) ≡ false
 fails c = ⊎-elim
-    (λ w. ap₂ _&&_ (w .0 .taken) (sym (w .2 .ensures) ∙ w .3 .left))
+    (λ w. ap₂ _&&_ (w .0 .taken) (sym (w .3 .ensures) ∙ w .4 .left))
     (λ w. ap₂ _&&_ (w .left) refl)
     (c .if1 .came)
 
@@ -90,8 +98,10 @@ reaches-spec =
     cast-end
     loop-holds
     shared-slice-read-if1
-    mul-v
-    array-copy-out-v
+    mul-t14
+    shared-slice-read-t16
+    mul-t17
+    shared-slice-read-t19
     carries-requires
     returns
     add-s

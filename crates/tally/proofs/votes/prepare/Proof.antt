@@ -16,6 +16,9 @@ target-low w sound k h = omega (arith, target-held w sound k h, few-checkpoints 
 member-places-requires : tie.Need-member-places-requires
 member-places-requires c κs = search (needs, ids-long, few-members, voters-long, few-votes)
 
+source-places-requires : tie.Need-source-places-requires
+source-places-requires c κs = search (needs, few-votes)
+
 bucket-requires : tie.Need-bucket-requires
 bucket-requires c κs = search (needs, few-votes, target-low)
 
@@ -27,4 +30,4 @@ returns c = search (needs, quota-is)
 
 pub prepare-spec : {M : Type 1} → statement M
 prepare-spec =
-    tie.close (tie.spec member-places-requires bucket-requires total-bond-requires returns)
+    tie.close (tie.spec member-places-requires source-places-requires bucket-requires total-bond-requires returns)

@@ -1,0 +1,29 @@
+-- `ffi::ffw_paper` meets its contract: the length of the board paper, told in numbers; the buffer as the call left it.
+-- Assumes nothing.
+use Prim.Native.Nat.{ℕ}
+use mathlib.Core.Path.{subst}
+use Rattle.model.specs.Answer.{Answer}
+use Rattle.codes.specs.Numbers.{IsAnswered}
+use borrow.Author.Needs.{needs}
+use Rattle.ffi.proofs.ffw_paper.Statement.{statement}
+use Rattle.ffi.proofs.ffw_paper.Tie as tie
+
+write-paper-requires : tie.Need-write-paper-requires
+write-paper-requires c κs = search needs
+
+tell-length-requires : tie.Need-tell-length-requires
+tell-length-requires c κs = search needs
+
+same-length : tie.Need-same-length
+same-length c = search needs
+
+returns : tie.Need-returns
+returns c =
+    let call = c .before .before .before .write-paper .ensures in (
+      subst (λ (a : Answer ℕ). IsAnswered (λ n. n) a (c .tell-length .result)) (call .0)
+          (c .tell-length .ensures),
+      call .1,
+    )
+
+pub ffw-paper-spec : {M : Type 1} → statement M
+ffw-paper-spec = tie.close (tie.spec write-paper-requires tell-length-requires same-length returns)
