@@ -51,7 +51,7 @@ pub extern "C" fn ffw_replay(w: Witness, log: &[u8], limit: u64) -> Replay
         IsReplayed (header (now (log .entry))) (replayed w (now (log .entry)) limit (header (now (log .entry)))) r
         ⌝ }
 {
-    let replayed = guarantee::replay(w, log, limit);
+    let replayed = replay::replay(w, log, limit);
     let start = replayed.start;
     let read = replayed.read;
     let last = read.last;

@@ -593,7 +593,7 @@ fn say_list(w: Witness) {
 
 // What a log leaves; it has fewer than 5,000 records.
 fn left_by(log: &[u8]) -> Witness {
-    let replayed = guarantee::replay(blank::blank(), log, 5000);
+    let replayed = replay::replay(blank::blank(), log, 5000);
     let read = replayed.read;
     read.witness
 }

@@ -9,11 +9,12 @@ use Rattle.model.specs.Buffer.{writeText, bufferAfter}
 use Rattle.model.specs.Bytes.{AreBytes}
 use Rattle.model.specs.Change.{Decision, decided}
 use Rattle.model.specs.Checker.{check}
+use Rattle.model.specs.Decide.{decide}
 use Rattle.model.specs.Evidence.{ourList}
 use Rattle.model.specs.Lists.{All, none, each}
 use Rattle.model.specs.Model.{Model, start}
 use Rattle.model.specs.Paper.{paper}
-use Rattle.model.specs.Run.{Event, OfBytes, decideEvent, after, outcomes}
+use Rattle.model.specs.Run.{Event, reading, OfBytes, decideEvent, after, outcomes}
 use Rattle.model.specs.WellFormed.{WellFormed}
 use Rattle.model.proofs.Best.{best-exact}
 use Rattle.model.proofs.Bytes.{drop-bytes}
@@ -51,6 +52,14 @@ module _ (w : Witness) (b : Model) (h : Holds w b) where
   -- what the call decides is what the model decides
   pub decided-is : (e : Event) → eventCall w e ≡ decideEvent b e
   decided-is e = sound-event w e (true-sound w (h .sound)) ∙ ap (λ (m : Model). decideEvent m e) (h .model)
+
+pub holds : (w : Witness) → Sound w → Holds w (modelOf w)
+holds w sound = record { model = refl; sound = sound }
+
+-- reading a record by the call is reading it by the model
+pub decided-here : (w : Witness) → Sound w → (s : List ℕ) → eventCall w (reading s) ≡ decide (modelOf w) s
+unfolding decideEvent
+decided-here w sound s = decided-is w (modelOf w) (holds w sound) (reading s)
 
 step-holds : (w : Witness) (b : Model) → Holds w b → (e : Event) → OfBytes e → Holds (stored w (eventCall w e)) (decided b (decideEvent b e))
 step-holds w b h e bytes =

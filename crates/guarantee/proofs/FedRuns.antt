@@ -33,8 +33,8 @@ use Rattle.report.specs.Feed as Feed
 use Rattle.report.proofs.ByRecord.{call-elim, Halts, nothing-left, unknown, cut, halts, unknown-decided, cut-decided}
 use Rattle.guarantee.specs.CallsAreRuns.{firstRecords, behindRecords, no-record, one-record, stopLine, Cause, FedRun, FeedIsRun, CallsKeep}
 use Rattle.guarantee.specs.Demand3.{witnessAfter}
+use Rattle.guarantee.proofs.Demand.{decided-here}
 use Rattle.guarantee.proofs.FirstRecords.{passed-first}
-use Rattle.guarantee.proofs.Onward.{decided-here}
 
 -- no record is passed
 module _ (room : ℕ) (w : Witness) (k : ℕ) (s : List ℕ) where

@@ -23,8 +23,7 @@ use Rattle.witness.specs.Calls.{held, decideOn, eventCall}
 use Rattle.report.proofs.Prefix.{SameFront, whole-front}
 use Rattle.guarantee.specs.CallsAreRuns.{firstRecords, behindRecords, Whole, no-record, one-record, RunGoesOn}
 use Rattle.guarantee.specs.Demand3.{witnessAfter, Guarantee}
-use Rattle.guarantee.proofs.Demand.{run-holds, run-told, start-holds, demand-3}
-use Rattle.guarantee.proofs.Onward.{holds, decided-here}
+use Rattle.guarantee.proofs.Demand.{run-holds, run-told, start-holds, demand-3, holds, decided-here}
 
 pub after-both : (w : Witness) (es fs : List Event) → witnessAfter w (es ++ fs) ≡ witnessAfter (witnessAfter w es) fs
 unfolding witnessAfter

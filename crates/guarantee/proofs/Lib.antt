@@ -1,7 +1,4 @@
 pub mod Demand
-mod Onward
-mod Calls
-mod Asked
 pub mod FirstRecords
 pub mod ManyRuns
 pub mod FedRuns

@@ -24,8 +24,8 @@ use Rattle.reader.proofs.Made.{length-inside, Ends, many-ends}
 use Rattle.witness.specs.Readings.{manyCall}
 use Rattle.guarantee.specs.CallsAreRuns.{firstRecords, behindRecords, Whole, no-record, one-record, ManyRun, ManyIsRun}
 use Rattle.guarantee.specs.Demand3.{witnessAfter, toldOf}
+use Rattle.guarantee.proofs.Demand.{decided-here}
 use Rattle.guarantee.proofs.FirstRecords.{first-bytes, run-sound, passed-first}
-use Rattle.guarantee.proofs.Onward.{decided-here}
 
 module _ (log : List ℕ) (bytes : AreBytes log) where
   -- what was passed, what it told, and what is left

@@ -30,9 +30,8 @@ use Rattle.report.proofs.Pieces.{bytes-before, bytes-behind, bytes-both, opened
 use Rattle.guarantee.specs.CallsAreRuns.{firstRecords, behindRecords, Whole, no-record, one-record, Stand, standAfter, feeds, PiecesAreRun}
 use Rattle.guarantee.specs.Demand3.{witnessAfter, Guarantee}
 use Rattle.guarantee.specs.LogRead.{replayed}
-use Rattle.guarantee.proofs.Demand.{demand-3}
+use Rattle.guarantee.proofs.Demand.{demand-3, decided-here}
 use Rattle.guarantee.proofs.FirstRecords.{after-both, first-bytes, run-sound, whole-same, behind-same, after-same, whole-both, behind-both, first-both}
-use Rattle.guarantee.proofs.Onward.{decided-here}
 use Rattle.guarantee.proofs.FedRuns.{feed-is-run}
 
 abbrev all : List Piece → List ℕ

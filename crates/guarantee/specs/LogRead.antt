@@ -5,18 +5,15 @@ use mathlib.Core.Path.{_≡_}
 use mathlib.Core.List.{List}
 use lib.ListN.{length, drop}
 use Rattle.model.specs.Answer.{Answer, refused, answer}
-use Rattle.model.specs.Bytes.{AreBytes, part}
+use Rattle.model.specs.Bytes.{AreBytes}
 use Rattle.model.specs.Change.{Told, nothingLeft}
 use Rattle.model.specs.Lists.{All}
 use Rattle.model.specs.Log.{header}
 use Rattle.model.specs.Model.{start}
 use Rattle.model.specs.Run.{Event, OfBytes, after, readings}
 use Rattle.state.specs.State.{emptyWitness}
-use Rattle.state.specs.Reading.{outcomeOf, startOf}
 use Rattle.state.specs.declared.Witness.{Witness}
 use Rattle.reader.specs.Many.{lastTold}
-use Rattle.guarantee.specs.declared.Read.{Read}
-use Rattle.guarantee.specs.declared.Replayed.{Replayed}
 use Rattle.guarantee.specs.Demand3.{witnessAfter, toldOf, Guarantee}
 
 -- what readings come to: what the last of them told, how many they are, and the witness
@@ -29,9 +26,6 @@ pub record Reads : Type 0 where
 abbrev pub readOn : Answer Told → ℕ → Witness → List Event → Reads
 readOn t k w es = record { last = lastTold t (toldOf w es); records = k + length es; witness = witnessAfter w es }
 
-abbrev pub readOf : Read → Reads
-readOf r = record { last = outcomeOf (r .last); records = r .records; witness = r .witness }
-
 -- the readings of a log after its header, at most so many
 abbrev pub recordsOf : ℕ → List ℕ → List Event
 recordsOf limit log = readings limit (drop 37 log)
@@ -40,11 +34,6 @@ recordsOf limit log = readings limit (drop 37 log)
 unfoldable pub replayed : Witness → List ℕ → ℕ → Answer (List ℕ) → Reads
 replayed w log limit (refused n) = record { last = answer nothingLeft; records = 0; witness = w }
 replayed w log limit (answer name) = readOn (answer nothingLeft) 0 (emptyWitness name) (recordsOf limit log)
-
--- what the code's `replay` gives back
-pub record IsReplay (w : Witness) (log : List ℕ) (limit : ℕ) (r : Replayed) : Type 0 where
-  pub start : startOf (part 5 32 log) (r .start) ≡ header log
-  pub read : readOf (r .read) ≡ replayed w log limit (header log)
 
 -- whatever witness was handed in, a log with a right header leaves one of which all of Demand 3 holds, after any number of its
 -- records

@@ -1213,7 +1213,7 @@ fn say_cut(w: Witness, log: &[u8]) {
 fn say_asked(log: &[u8], limit: u64) {
     let list = [70u8, 70, 80, 0, 1, 0, 1, 0, 2, 0, 1, 0, 4];
     let mut buf = [255u8; 16];
-    let answers = guarantee::ask(blank::blank(), log, limit, Place(4), &list, &mut buf);
+    let answers = replay::ask(blank::blank(), log, limit, Place(4), &list, &mut buf);
     let last = answers.last;
     let status = answers.status;
     let conflict = answers.conflict;
@@ -1242,7 +1242,7 @@ fn main() {
     say_support(w, 1, 2);
     say_conflict(witness::conflict(w));
     say_list(w);
-    let replayed = guarantee::replay(blank::blank(), &LOG, 64);
+    let replayed = replay::replay(blank::blank(), &LOG, 64);
     let read = replayed.read;
     let last = read.last;
     let whole = read.witness;

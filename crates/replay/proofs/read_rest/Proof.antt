@@ -1,4 +1,4 @@
--- `guarantee::read_rest` meets its contract. The loop's invariant: what was read, and what reading on from here comes to, is the
+-- `replay::read_rest` meets its contract. The loop's invariant: what was read, and what reading on from here comes to, is the
 -- whole. The measure is how many bytes are left. Assumes nothing.
 use Prim.Native.Nat.{ℕ, _-_, _<_, _≤_}
 use mathlib.Core.Path.{_≡_, refl, sym, ap, _∙_, subst}
@@ -16,10 +16,10 @@ use Rattle.model.proofs.Lists.{and-left, and-right, lt-or-ge}
 use Rattle.state.specs.Reading.{outcomeOf}
 use Rattle.reader.specs.Many.{readMany, IsBatch}
 use Rattle.reader.proofs.Made.{rows-kept}
-use Rattle.guarantee.proofs.Onward.{rest, Sofar, none-read, limit-met, log-ended}
-use Rattle.guarantee.proofs.Calls.{Call, few-read, each-passed, went-on, some-passed, stopped}
-use Rattle.guarantee.proofs.read_rest.Statement.{statement}
-use Rattle.guarantee.proofs.read_rest.Tie as tie
+use Rattle.replay.proofs.Onward.{rest, Sofar, none-read, limit-met, log-ended}
+use Rattle.replay.proofs.Calls.{Call, few-read, each-passed, went-on, some-passed, stopped}
+use Rattle.replay.proofs.read_rest.Statement.{statement}
+use Rattle.replay.proofs.read_rest.Tie as tie
 
 abbrev Inv-loop : tie.InvT-loop
 Inv-loop log from limit held₀ at₀ last₀ records₀ rows₀ held at last records rows = Sofar (rest (answer nothingLeft) 0 held₀ limit log from) limit log (outcomeOf last) records held at × (length rows ≡ 1024)

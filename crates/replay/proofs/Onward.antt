@@ -16,7 +16,7 @@ use Rattle.model.specs.Decide.{decide}
 use Rattle.model.specs.Log.{header, recordLength}
 use Rattle.model.specs.declared.Refusal.{Refusal}
 use Rattle.model.specs.Refusals.{refusalNumber}
-use Rattle.model.specs.Run.{Event, reading, decideEvent, readings}
+use Rattle.model.specs.Run.{Event, reading, readings}
 use Rattle.state.specs.Reading.{startOf, beginWith, IsBeginning}
 use Rattle.state.specs.State.{emptyWitness, modelOf, stored}
 use Rattle.state.specs.declared.Witness.{Witness}
@@ -24,24 +24,17 @@ use Rattle.state.specs.declared.Beginning.{Beginning}
 use Rattle.state.specs.declared.Outcome.the-variants.{Nothing}
 use Rattle.state.specs.declared.Start.the-variants.{Begun, Refused as RefusedHeader}
 use Rattle.witness.specs.Calls.{eventCall}
 use Rattle.guarantee.specs.Demand3.{witnessAfter, toldOf}
-use Rattle.guarantee.specs.LogRead.{Reads, readOn, readOf, recordsOf, replayed, IsReplay}
-use Rattle.guarantee.specs.declared.Read.{Read}
+use Rattle.guarantee.specs.LogRead.{Reads, readOn, recordsOf, replayed}
+use Rattle.replay.specs.IsReplay.{readOf, IsReplay}
+use Rattle.replay.specs.declared.Read.{Read}
 use Rattle.state.proofs.Started.{empty-sound, header-name}
 use Rattle.reader.specs.Many.{lastTold}
 use Rattle.state.specs.Sound.{Sound}
 use Rattle.state.proofs.Kept.{reading-sound}
 use Rattle.model.proofs.Bytes.{drop-bytes}
 use Rattle.reader.proofs.Made.{stays}
-use Rattle.guarantee.proofs.Demand.{Holds, decided-is}
-
-pub holds : (w : Witness) → Sound w → Holds w (modelOf w)
-holds w sound = record { model = refl; sound = sound }
-
--- reading a record by the call is reading it by the model
-pub decided-here : (w : Witness) → Sound w → (s : List ℕ) → eventCall w (reading s) ≡ decide (modelOf w) s
-unfolding decideEvent
-decided-here w sound s = decided-is w (modelOf w) (holds w sound) (reading s)
+use Rattle.guarantee.proofs.Demand.{decided-here}
 
 -- an event, and then the others
 first-read : (t : Answer Told) (k : ℕ) (w : Witness) (e : Event) (es : List Event) → readOn t k w (e ∷ es) ≡ readOn (eventCall w e .told) (k + 1) (stored w (eventCall w e)) es

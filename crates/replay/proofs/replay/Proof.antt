@@ -1,8 +1,8 @@
--- `guarantee::replay` meets its contract: the header's rows, then every record from offset 37 on. Assumes nothing.
+-- `replay::replay` meets its contract: the header's rows, then every record from offset 37 on. Assumes nothing.
 use borrow.Author.Needs.{needs}
-use Rattle.guarantee.proofs.Onward.{begun-sound, begun-replay, refused-replay}
-use Rattle.guarantee.proofs.replay.Statement.{statement}
-use Rattle.guarantee.proofs.replay.Tie as tie
+use Rattle.replay.proofs.Onward.{begun-sound, begun-replay, refused-replay}
+use Rattle.replay.proofs.replay.Statement.{statement}
+use Rattle.replay.proofs.replay.Tie as tie
 
 begin-requires : tie.Need-begin-requires
 begin-requires c κs = search needs

@@ -23,8 +23,8 @@ use Rattle.reader.specs.Many.{Ended, readMany, lastTold, endOf, endedTold, IsBa
 use Rattle.reader.specs.declared.Batch.{Batch}
 use Rattle.reader.proofs.Made.{length-inside, while-passed, many-ends}
 use Rattle.reader.proofs.Runs.{last-is, any-last}
 use Rattle.guarantee.specs.LogRead.{Reads}
-use Rattle.guarantee.proofs.Onward.{Sofar, stops-here, goes-on}
+use Rattle.replay.proofs.Onward.{Sofar, stops-here, goes-on}
 
 -- a call that reads on, from where k records were read; at most n are read in it, and `r` is what it came to
 pub record Call (whole : Reads) (limit : ℕ) (log : List ℕ) (t : Answer Told) (k : ℕ) (w : Witness) (at n : ℕ) (before : List ℕ) (r : Batch) (after : List ℕ) : Type 0 where

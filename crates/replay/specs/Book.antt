@@ -16,9 +16,9 @@ use Rattle.model.specs.Run.{after, outcomes}
 use Rattle.checker.specs.Check.{checkOf}
 use Rattle.state.specs.Reading.{outcomeOf}
 use Rattle.witness.specs.Answers.{statusOf, conflictOf}
-use Rattle.guarantee.specs.declared.Answers.{Answers}
+use Rattle.replay.specs.declared.Answers.{Answers}
 use Rattle.reader.specs.Many.{lastTold}
 use Rattle.guarantee.specs.LogRead.{recordsOf}
 
 abbrev pub book : ℕ → List ℕ → List ℕ → Model
 book limit log name = after (start name) (recordsOf limit log)

@@ -1,0 +1,2 @@
+pub mod IsReplay
+pub mod Book
