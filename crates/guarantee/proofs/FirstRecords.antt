@@ -20,7 +20,7 @@ use Rattle.model.proofs.Bytes.{drop-bytes}
 use Rattle.state.specs.Sound.{Sound}
 use Rattle.state.proofs.Sound.{true-sound}
 use Rattle.witness.specs.Calls.{held, decideOn, eventCall}
-use Rattle.report.proofs.Prefix.{SameFront, whole-front}
+use Rattle.pieces.proofs.Prefix.{SameFront, whole-front}
 use Rattle.guarantee.specs.CallsAreRuns.{firstRecords, behindRecords, Whole, no-record, one-record, RunGoesOn}
 use Rattle.guarantee.specs.Demand3.{witnessAfter, Guarantee}
 use Rattle.guarantee.proofs.Demand.{run-holds, run-told, start-holds, demand-3, holds, decided-here}

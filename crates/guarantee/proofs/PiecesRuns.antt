@@ -24,9 +24,9 @@ use Rattle.state.proofs.Sound.{true-sound}
 use Rattle.reader.proofs.Made.{stays}
 use Rattle.witness.specs.Calls.{eventCall}
 use Rattle.report.specs.Feed.{Feeding, headed, openCall, feedCall}
-use Rattle.report.specs.Pieces.{Piece}
-use Rattle.report.proofs.Prefix.{left-shorter}
-use Rattle.report.proofs.Pieces.{bytes-before, bytes-behind, bytes-both, opened-is}
+use Rattle.pieces.specs.Pieces.{Piece}
+use Rattle.pieces.proofs.Prefix.{left-shorter}
+use Rattle.pieces.proofs.Pieces.{bytes-before, bytes-behind, bytes-both, opened-is}
 use Rattle.guarantee.specs.CallsAreRuns.{firstRecords, behindRecords, Whole, no-record, one-record, Stand, standAfter, feeds, PiecesAreRun}
 use Rattle.guarantee.specs.Demand3.{witnessAfter, Guarantee}
 use Rattle.guarantee.specs.LogRead.{replayed}

@@ -2,9 +2,3 @@ mod Told
 mod Rows
 mod Onward
 mod Ends
-pub mod Inside
-pub mod Prefix
-mod RestOfReport
-pub mod ByRecord
-mod Feeding
-pub mod Pieces

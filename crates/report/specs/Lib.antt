@@ -1,3 +1,2 @@
 pub mod Feed
 pub mod Rows
-pub mod Pieces

@@ -16,8 +16,8 @@ use Rattle.model.specs.Report.{report}
 use Rattle.state.specs.declared.Witness.{Witness}
 use Rattle.state.proofs.Started.{header-long}
 use Rattle.report.specs.Feed.{Paused, wants, full, outOfNumbers, ended, refusedBy, Feeding, pausedAt, lineRoom, headed, openCall, feedCall, endCall}
-use Rattle.report.specs.Pieces.{Piece, onward, inWant?, fedText, lastPause, endPause}
-use Rattle.report.proofs.Pieces.{in-pieces}
+use Rattle.pieces.specs.Pieces.{Piece, onward, inWant?, fedText, lastPause, endPause}
+use Rattle.pieces.proofs.Pieces.{in-pieces}
 use Rattle.buffered.specs.Hold.{ready?, IsFilled}
 use Rattle.turns.specs.Turns.{Starts, fateOf, Refilled}
 use Rattle.turns.specs.declared.Fate.{Fate}

@@ -10,7 +10,7 @@ use lib.ListN.{length, take, drop}
 use Rattle.state.specs.declared.Witness.{Witness}
 use Rattle.report.specs.Feed.{pausedOf, feedCall, openCall, IsFed}
 use Rattle.report.specs.declared.Fed.{Fed}
-use Rattle.report.proofs.Inside.{feed-passes, open-passes}
+use Rattle.pieces.proofs.Inside.{feed-passes, open-passes}
 use Rattle.buffered.specs.Hold.{ready?}
 use Rattle.turns.specs.Turns.{fateOf, Refilled, toldAs, Told}
 use Rattle.turns.specs.declared.Fate.{Fate}

@@ -16,7 +16,7 @@ use Rattle.state.specs.State.{modelOf}
 use Rattle.state.specs.declared.Witness.{Witness}
 use Rattle.state.specs.Sound.{sound?}
 use Rattle.report.specs.Feed.{wants, pausedAt, lineRoom, lastNumber, halted, feedFrom, onSound, feedCall}
-use Rattle.report.proofs.Pieces.{open-waits}
+use Rattle.pieces.proofs.Pieces.{open-waits}
 use Rattle.buffered.specs.Hold.{whole?, ready?}
 use Rattle.stream.specs.Turns.{callOf, CallWaits}
 

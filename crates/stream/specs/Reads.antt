@@ -7,7 +7,7 @@ use lib.ListN.{take, drop}
 use Rattle.model.specs.Bytes.{AreBytes}
 use Rattle.model.specs.Report.{report}
 use Rattle.report.specs.Feed.{lineRoom, endCall}
-use Rattle.report.specs.Pieces.{inWant?}
+use Rattle.pieces.specs.Pieces.{inWant?}
 use Rattle.buffered.specs.Hold.{ready?}
 use Rattle.turns.specs.Turns.{Starts}
 use Rattle.turns.specs.declared.Fate.the-variants.{Open, Whole, Ended}

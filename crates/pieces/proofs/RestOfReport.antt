@@ -17,7 +17,7 @@ use Rattle.model.specs.Report.{summary, stops?, stoppedLine, outcomeLine, outco
 use Rattle.model.specs.Run.{Event, reading, decideEvent, after, outcomes, readings}
 use Rattle.model.proofs.Lists.{clash}
 use Rattle.model.proofs.Readings.{readings-bound, whole-goes-on}
-use Rattle.report.proofs.Prefix.{left-shorter, whole-front}
+use Rattle.pieces.proofs.Prefix.{left-shorter, whole-front}
 
 -- the rest of a report: record k and those after it, from the bytes s to the log's end or its stop, and the summary
 unfoldable pub restOfReport : Model → ℕ → List ℕ → List ℕ
