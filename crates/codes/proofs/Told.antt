@@ -12,8 +12,8 @@ use Rattle.state.specs.Reading.{startOf, outcomeOf}
 use Rattle.state.specs.declared.Outcome.{Outcome}
 use Rattle.state.specs.declared.Start.{Start}
 use Rattle.state.specs.declared.Start.the-variants.{Begun as HasBegun, Refused as RefusedHeader}
-use Rattle.report.specs.Feed.{pausedOf}
-use Rattle.report.specs.declared.Pause.{Pause}
+use Rattle.feeding.specs.Feed.{pausedOf}
+use Rattle.feeding.specs.declared.Pause.{Pause}
 use Rattle.codes.specs.Numbers.{refusalOf, valueOf, yesNumber, toldNumber, pauseNumber, IsAnswered, IsBacked, IsTold}
 
 -- a bool's byte

@@ -12,7 +12,7 @@ use Rattle.state.specs.State.{stored}
 use Rattle.state.specs.declared.Witness.{Witness}
 use Rattle.text.specs.Put.{Put}
 use Rattle.guarantee.specs.LogRead.{Reads}
-use Rattle.report.specs.Feed.{Paused, wants, full, outOfNumbers, ended, refusedBy, Feeding}
+use Rattle.feeding.specs.Feed.{Paused, wants, full, outOfNumbers, ended, refusedBy, Feeding}
 use Rattle.codes.specs.declared.Answered.{Answered}
 use Rattle.codes.specs.declared.Backed.{Backed}
 use Rattle.codes.specs.declared.Begun.{Begun}

@@ -1,9 +1,9 @@
 // Answers as numbers, for a caller in Rust or C.
+use feeding::Fed;
+use feeding::Pause;
 use model::Refusal;
 use model::Status;
 use model::WriteAnswer;
-use report::Fed;
-use report::Pause;
 use state::Outcome;
 use state::Start;
 use state::Witness;
@@ -13,7 +13,7 @@ ghost use Prim.Native.Nat.{ℕ};
 ghost use Rattle.model.specs.Buffer.{writeAnswerOf};
 ghost use Rattle.model.specs.Refusals.{refusalNumber};
 ghost use Rattle.state.specs.Reading.{outcomeOf, startOf};
-ghost use Rattle.report.specs.Feed.{Feeding, IsFed, pausedOf};
+ghost use Rattle.feeding.specs.Feed.{Feeding, IsFed, pausedOf};
 ghost use Rattle.codes.specs.Numbers.{refusalOf, statusNumber, pauseNumber, IsAnswered, IsTold, IsPiece};
 
 // An answer: the number of the refusal and 0, or 0 and the value.

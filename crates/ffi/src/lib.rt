@@ -25,7 +25,7 @@ ghost use Rattle.witness.specs.Calls.{eventCall, checkCall, statusCall, support
 ghost use Rattle.witness.specs.Readings.{passed};
 ghost use Rattle.witness.specs.Calls.{writeCall, writeBuffer};
 ghost use Rattle.guarantee.specs.LogRead.{replayed};
-ghost use Rattle.report.specs.Feed.{openCall, feedCall, endCall};
+ghost use Rattle.feeding.specs.Feed.{openCall, feedCall, endCall};
 ghost use Rattle.codes.specs.Numbers.{statusNumber, yesNumber, IsAnswered, IsBacked, IsBegun, IsRead, IsReplayed};
 ghost use Rattle.codes.specs.Numbers.{IsPiece};
 

@@ -28,8 +28,8 @@ use Rattle.state.proofs.Sound.{sound-true}
 use Rattle.witness.specs.Calls.{held, decideOn, eventCall, writeCall, writeBuffer}
 use Rattle.witness.specs.Readings.{manyCall}
 use Rattle.witness.proofs.Placed.{write-40}
-use Rattle.report.specs.Feed.{Paused, wants, full, outOfNumbers, ended, refusedBy, Feeding, pausedAt, ahead, lineRoom, lastNumber, spent, halted, headed, openCall, feedCall, endFed, endCall, endText}
-use Rattle.report.specs.Feed as Feed
+use Rattle.feeding.specs.Feed.{Paused, wants, full, outOfNumbers, ended, refusedBy, Feeding, pausedAt, ahead, lineRoom, lastNumber, spent, halted, headed, openCall, feedCall, endFed, endCall, endText}
+use Rattle.feeding.specs.Feed as Feed
 use Rattle.pieces.proofs.ByRecord.{call-elim, Halts, nothing-left, unknown, cut, halts, unknown-decided, cut-decided}
 use Rattle.guarantee.specs.CallsAreRuns.{firstRecords, behindRecords, no-record, one-record, stopLine, Cause, FedRun, FeedIsRun, CallsKeep}
 use Rattle.guarantee.specs.Demand3.{witnessAfter}

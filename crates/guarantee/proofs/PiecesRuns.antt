@@ -23,7 +23,7 @@ use Rattle.state.proofs.Kept.{reading-sound}
 use Rattle.state.proofs.Sound.{true-sound}
 use Rattle.reader.proofs.Made.{stays}
 use Rattle.witness.specs.Calls.{eventCall}
-use Rattle.report.specs.Feed.{Feeding, headed, openCall, feedCall}
+use Rattle.feeding.specs.Feed.{Feeding, headed, openCall, feedCall}
 use Rattle.pieces.specs.Pieces.{Piece}
 use Rattle.pieces.proofs.Prefix.{left-shorter}
 use Rattle.pieces.proofs.Pieces.{bytes-before, bytes-behind, bytes-both, opened-is}

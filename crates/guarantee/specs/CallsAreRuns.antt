@@ -20,7 +20,7 @@ use Rattle.state.specs.declared.Witness.{Witness}
 use Rattle.reader.specs.Many.{rowsUsed, endedBy, Many}
 use Rattle.witness.specs.Calls.{eventCall, writeCall, writeBuffer}
 use Rattle.witness.specs.Readings.{manyCall}
-use Rattle.report.specs.Feed.{Paused, wants, full, outOfNumbers, ended, refusedBy, Feeding, pausedAt, lineRoom, lastNumber, openCall, feedCall, endCall}
+use Rattle.feeding.specs.Feed.{Paused, wants, full, outOfNumbers, ended, refusedBy, Feeding, pausedAt, lineRoom, lastNumber, openCall, feedCall, endCall}
 use Rattle.pieces.specs.Pieces.{Piece}
 use Rattle.guarantee.specs.Demand3.{witnessAfter, toldOf, Guarantee}
 use Rattle.guarantee.specs.LogRead.{replayed}

@@ -23,7 +23,7 @@ use Rattle.state.specs.State.{modelOf, stored}
 use Rattle.state.specs.declared.Witness.{Witness}
 use Rattle.state.proofs.Kept.{reading-sound}
 use Rattle.state.proofs.Sound.{true-sound}
-use Rattle.report.specs.Feed.{Feeding, pausedAt, ahead, lineRoom, lastNumber, spent, halted, feedFrom, onSound, feedCall}
+use Rattle.feeding.specs.Feed.{Feeding, pausedAt, ahead, lineRoom, lastNumber, spent, halted, feedFrom, onSound, feedCall}
 use Rattle.pieces.proofs.Prefix.{left-shorter}
 
 -- P of the room, the witness, the number of the next record, the bytes from there on, and what the call comes to

@@ -19,7 +19,7 @@ use Rattle.state.specs.State.{modelOf, stored}
 use Rattle.state.specs.declared.Witness.{Witness}
 use Rattle.state.proofs.Kept.{reading-kept}
 use Rattle.state.specs.Sound.{Sound}
-use Rattle.report.specs.Feed.{wants, full, outOfNumbers, Feeding, pausedAt, ahead, lineRoom, spent, halted, feedCall, endText}
+use Rattle.feeding.specs.Feed.{wants, full, outOfNumbers, Feeding, pausedAt, ahead, lineRoom, spent, halted, feedCall, endText}
 use Rattle.pieces.specs.Pieces.{onward}
 use Rattle.pieces.proofs.ByRecord.{call-elim, Halts, nothing-left, unknown, cut, halts, Decided, unknown-decided, cut-decided}
 use Rattle.pieces.proofs.RestOfReport.{restOfReport, rest-goes-on, rest-stops, rest-ends}

@@ -17,8 +17,8 @@ use Rattle.state.specs.declared.Witness.{Witness}
 use Rattle.reader.proofs.Made.{length-inside}
 use Rattle.text.proofs.Putting.{kept}
 use Rattle.state.specs.Sound.{sound?}
-use Rattle.report.specs.Feed.{Feeding, full, wants, ended, pausedAt, ahead, refusedBy, lineRoom, lastNumber, spent, halted, feedFrom, onSound, feedCall, headed, openCall, IsFed}
-use Rattle.report.specs.declared.Fed.{Fed}
+use Rattle.feeding.specs.Feed.{Feeding, full, wants, ended, pausedAt, ahead, refusedBy, lineRoom, lastNumber, spent, halted, feedFrom, onSound, feedCall, headed, openCall, IsFed}
+use Rattle.feeding.specs.declared.Fed.{Fed}
 
 halted-passes : (t : Answer Told) (w : Witness) (k : ℕ) → halted t w k .passed ≡ 0
 unfolding halted

@@ -23,7 +23,7 @@ use Rattle.state.specs.State.{emptyWitness, modelOf, stored}
 use Rattle.state.specs.declared.Witness.{Witness}
 use Rattle.state.proofs.Sound.{true-sound}
 use Rattle.state.proofs.Started.{empty-model, empty-sound, header-long, header-name}
-use Rattle.report.specs.Feed.{Paused, wants, full, outOfNumbers, ended, refusedBy, Feeding, pausedAt, ahead, lineRoom, lastNumber, spent, halted, headed, onSound, feedFrom, openCall, feedCall, endText, endFed, endCall}
+use Rattle.feeding.specs.Feed.{Paused, wants, full, outOfNumbers, ended, refusedBy, Feeding, pausedAt, ahead, lineRoom, lastNumber, spent, halted, headed, onSound, feedFrom, openCall, feedCall, endText, endFed, endCall}
 use Rattle.pieces.specs.Pieces.{Piece, onward, inWant?, fedText, lastPause, endPause, InPieces, OpenWaits, FeedGoesOn, CloseEnds}
 use Rattle.pieces.proofs.Feeding.{Waits, fed-call}
 use Rattle.pieces.proofs.RestOfReport.{restOfReport}

@@ -10,7 +10,7 @@ use Rattle.model.specs.Report.{report}
 use Rattle.state.specs.State.{modelOf}
 use Rattle.state.specs.declared.Witness.{Witness}
 use Rattle.state.specs.Sound.{sound?}
-use Rattle.report.specs.Feed.{Paused, wants, full, outOfNumbers, ended, refusedBy, Feeding, pausedAt, lineRoom, lastNumber, openCall, feedCall, endText, endCall}
+use Rattle.feeding.specs.Feed.{Paused, wants, full, outOfNumbers, ended, refusedBy, Feeding, pausedAt, lineRoom, lastNumber, openCall, feedCall, endText, endCall}
 
 -- a call of `open` or `feed`: the room in its buffer, and the bytes that were added to what the last call left
 pub record Piece : Type 0 where

@@ -21,9 +21,9 @@ use Rattle.state.specs.declared.Start.the-variants.{Begun, Refused as RefusedHe
 use Rattle.state.specs.declared.Witness.{Witness}
 use Rattle.text.proofs.Putting.{none}
 use Rattle.state.specs.Sound.{sound?}
-use Rattle.report.specs.Feed.{Feeding, full, ended, wants, refusedBy, pausedAt, lineRoom, onSound, headed, openCall, endText, endFed, IsFed}
-use Rattle.report.specs.declared.Fed.{Fed}
-use Rattle.report.specs.declared.Pause.the-variants.{Wants}
+use Rattle.feeding.specs.Feed.{Feeding, full, ended, wants, refusedBy, pausedAt, lineRoom, onSound, headed, openCall, endText, endFed, IsFed}
+use Rattle.feeding.specs.declared.Fed.{Fed}
+use Rattle.feeding.specs.declared.Pause.the-variants.{Wants}
 
 -- ---- row 40
 

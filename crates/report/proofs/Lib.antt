@@ -1,4 +1,1 @@
-mod Told
-mod Rows
-mod Onward
 mod Ends

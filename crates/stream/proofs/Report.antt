@@ -15,7 +15,7 @@ use Rattle.model.specs.Log.{header}
 use Rattle.model.specs.Report.{report}
 use Rattle.state.specs.declared.Witness.{Witness}
 use Rattle.state.proofs.Started.{header-long}
-use Rattle.report.specs.Feed.{Paused, wants, full, outOfNumbers, ended, refusedBy, Feeding, pausedAt, lineRoom, headed, openCall, feedCall, endCall}
+use Rattle.feeding.specs.Feed.{Paused, wants, full, outOfNumbers, ended, refusedBy, Feeding, pausedAt, lineRoom, headed, openCall, feedCall, endCall}
 use Rattle.pieces.specs.Pieces.{Piece, onward, inWant?, fedText, lastPause, endPause}
 use Rattle.pieces.proofs.Pieces.{in-pieces}
 use Rattle.buffered.specs.Hold.{ready?, IsFilled}

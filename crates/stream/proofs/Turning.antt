@@ -8,8 +8,8 @@ use mathlib.Core.Bool.{Bool, true, false, cond, _&&_, _||_, true≢false}
 use lib.Dec.{ltb}
 use lib.ListN.{length, take, drop}
 use Rattle.state.specs.declared.Witness.{Witness}
-use Rattle.report.specs.Feed.{pausedOf, feedCall, openCall, IsFed}
-use Rattle.report.specs.declared.Fed.{Fed}
+use Rattle.feeding.specs.Feed.{pausedOf, feedCall, openCall, IsFed}
+use Rattle.feeding.specs.declared.Fed.{Fed}
 use Rattle.pieces.proofs.Inside.{feed-passes, open-passes}
 use Rattle.buffered.specs.Hold.{ready?}
 use Rattle.turns.specs.Turns.{fateOf, Refilled, toldAs, Told}

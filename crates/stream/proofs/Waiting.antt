@@ -15,7 +15,7 @@ use Rattle.model.proofs.Log.{Begins, begins-cut, none-at}
 use Rattle.state.specs.State.{modelOf}
 use Rattle.state.specs.declared.Witness.{Witness}
 use Rattle.state.specs.Sound.{sound?}
-use Rattle.report.specs.Feed.{wants, pausedAt, lineRoom, lastNumber, halted, feedFrom, onSound, feedCall}
+use Rattle.feeding.specs.Feed.{wants, pausedAt, lineRoom, lastNumber, halted, feedFrom, onSound, feedCall}
 use Rattle.pieces.proofs.Pieces.{open-waits}
 use Rattle.buffered.specs.Hold.{whole?, ready?}
 use Rattle.stream.specs.Turns.{callOf, CallWaits}

@@ -6,7 +6,7 @@ use mathlib.Core.Bool.{false, cond}
 use lib.ListN.{take, drop}
 use Rattle.model.specs.Bytes.{AreBytes}
 use Rattle.model.specs.Report.{report}
-use Rattle.report.specs.Feed.{lineRoom, endCall}
+use Rattle.feeding.specs.Feed.{lineRoom, endCall}
 use Rattle.pieces.specs.Pieces.{inWant?}
 use Rattle.buffered.specs.Hold.{ready?}
 use Rattle.turns.specs.Turns.{Starts}

@@ -8,7 +8,7 @@ use lib.Dec.{ltb}
 use lib.ListN.{length, take, drop}
 use Rattle.state.specs.declared.Witness.{Witness}
 use Rattle.text.specs.Put.{Put}
-use Rattle.report.specs.Feed.{wants, Feeding, pausedAt, lineRoom, lastNumber, openCall, feedCall}
+use Rattle.feeding.specs.Feed.{wants, Feeding, pausedAt, lineRoom, lastNumber, openCall, feedCall}
 use Rattle.state.specs.Sound.{sound?}
 use Rattle.buffered.specs.Hold.{ready?}
 use Rattle.turns.specs.Turns.{fateOf, Refilled}

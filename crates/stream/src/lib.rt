@@ -1,12 +1,12 @@
 // A log read from a file to its end, in constant memory: a piece at a time, through the report's calls. What they
 // write goes to standard output, before the next piece is read.
-use report::Fed;
+use feeding::Fed;
 use state::Witness;
 use turns::Fate;
 use turns::Turn;
 ghost use Prim.Native.Nat.{_≤_};
 ghost use lib.ListN.{length};
-ghost use Rattle.report.specs.Feed.{IsFed, endCall};
+ghost use Rattle.feeding.specs.Feed.{IsFed, endCall};
 ghost use Rattle.stream.specs.Reads.{Reads, Leaves, IsRead};
 ghost use Rattle.stream.specs.Turns.{callOf, Advanced, Stepped};
 

@@ -6,7 +6,7 @@ use mathlib.Core.List.{List}
 use mathlib.Core.Logic.{_⊎_}
 use mathlib.Core.Bool.{Bool, true, false, cond}
 use lib.ListN.{getD}
-use Rattle.report.specs.Feed.{Paused, wants, full, outOfNumbers, ended, refusedBy}
+use Rattle.feeding.specs.Feed.{Paused, wants, full, outOfNumbers, ended, refusedBy}
 use Rattle.buffered.specs.Hold.{IsFilled}
 use Rattle.turns.specs.declared.Fate.{Fate}
 use Rattle.turns.specs.declared.Fate.the-variants.{Open, Whole, Ended, Failed}

@@ -1,12 +1,12 @@
 // Where reading a log from a file stands, and what a turn does beside its call: what the call wrote is written to
 // standard output, or more of the file is read.
-use report::Pause;
+use feeding::Pause;
 use state::Witness;
 ghost use mathlib.Core.Path.{_≡_};
 ghost use mathlib.Core.Bool.{cond};
 ghost use Prim.Native.Nat.{_≤_, _<_};
 ghost use lib.ListN.{length};
-ghost use Rattle.report.specs.Feed.{pausedOf};
+ghost use Rattle.feeding.specs.Feed.{pausedOf};
 ghost use Rattle.turns.specs.Turns.{Starts, fateOf, BeginsLast, Told, Refilled};
 
 // How reading a log stands: it goes on; all of the log was read, and its end is still to be told; the report has

@@ -3,7 +3,7 @@ use mathlib.Core.Path.{ap}
 use mathlib.Core.Bool.{true, false, not}
 use borrow.Author.Needs.{needs}
 use Rattle.witness.proofs.Guarded.{passes-40, meets-40, good-state}
-use Rattle.report.specs.Feed.{endCall}
+use Rattle.feeding.specs.Feed.{endCall}
 use Rattle.report.proofs.Ends.{on-sound}
 use Rattle.report.proofs.close.Statement.{statement}
 use Rattle.report.proofs.close.Tie as tie

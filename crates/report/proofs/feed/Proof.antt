@@ -2,7 +2,7 @@
 use mathlib.Core.Bool.{true, false}
 use borrow.Author.Needs.{needs}
 use Rattle.witness.proofs.Guarded.{passes-40, meets-40, good-state}
-use Rattle.report.specs.Feed.{feedCall}
+use Rattle.feeding.specs.Feed.{feedCall}
 use Rattle.report.proofs.Ends.{on-sound}
 use Rattle.report.proofs.feed.Statement.{statement}
 use Rattle.report.proofs.feed.Tie as tie

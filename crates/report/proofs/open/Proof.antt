@@ -2,9 +2,9 @@
 use native.Mathlib.Omega.{arith}
 use borrow.Author.Needs.{needs}
 use Rattle.text.proofs.Putting.{none}
-use Rattle.report.specs.declared.Pause.the-variants.{Wants, Full, Ended}
+use Rattle.feeding.specs.declared.Pause.the-variants.{Wants, Full, Ended}
 use Rattle.report.proofs.Ends.{open-short, open-full, open-begun, open-refused}
-use Rattle.report.proofs.Told.{paused-fed}
+use Rattle.feeding.proofs.Told.{paused-fed}
 use Rattle.report.proofs.open.Statement.{statement}
 use Rattle.report.proofs.open.Tie as tie
 

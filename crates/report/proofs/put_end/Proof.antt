@@ -4,9 +4,9 @@ use borrow.Author.Needs.{needs}
 use mathlib.Core.Path.{ap}
 use lib.ListN.{length}
 use Rattle.text.proofs.Putting.{none, spelled}
-use Rattle.report.specs.declared.Pause.the-variants.{Full, Ended}
+use Rattle.feeding.specs.declared.Pause.the-variants.{Full, Ended}
 use Rattle.report.proofs.Ends.{end-full, end-fits}
-use Rattle.report.proofs.Told.{paused-fed, text-is}
+use Rattle.feeding.proofs.Told.{paused-fed, text-is}
 use Rattle.report.proofs.put_end.Statement.{statement}
 use Rattle.report.proofs.put_end.Tie as tie
 

@@ -4,8 +4,8 @@ use mathlib.Core.Path.{refl}
 use mathlib.Core.List.{[]}
 use Rattle.model.specs.declared.Refusal.the-variants.{UnsoundState}
 use Rattle.text.proofs.Putting.{none}
-use Rattle.report.specs.declared.Pause.the-variants.{Refused}
-use Rattle.report.proofs.Told.{paused-fed}
+use Rattle.feeding.specs.declared.Pause.the-variants.{Refused}
+use Rattle.feeding.proofs.Told.{paused-fed}
 use Rattle.report.proofs.unsound.Statement.{statement}
 use Rattle.report.proofs.unsound.Tie as tie
 

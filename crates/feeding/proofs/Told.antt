@@ -12,8 +12,8 @@ use Rattle.model.specs.Change.{Told}
 use Rattle.model.specs.Report.{stoppedLine}
 use Rattle.state.specs.declared.Witness.{Witness}
 use Rattle.text.specs.Put.{Put}
-use Rattle.report.specs.Feed.{wants, ended, Feeding, pausedAt, pausedOf, halted, IsFed}
-use Rattle.report.specs.declared.Pause.{Pause}
+use Rattle.feeding.specs.Feed.{wants, ended, Feeding, pausedAt, pausedOf, halted, IsFed}
+use Rattle.feeding.specs.declared.Pause.{Pause}
 
 -- where none can be passed
 module _ (w : Witness) (k : ℕ) where

@@ -23,7 +23,7 @@ use Rattle.model.proofs.Log.{decode-elim}
 use Rattle.model.proofs.Readings.{whole-goes-on}
 use Rattle.model.proofs.Rows.{member-elim, checkpoint-elim, vote-elim}
 use Rattle.reader.specs.Many.{rowOf}
-use Rattle.report.specs.Rows.{rowLine, rowLines}
+use Rattle.feeding.specs.Rows.{rowLine, rowLines}
 
 pub and-true : (a b : Bool) → (a && b) ≡ true → (a ≡ true) × (b ≡ true)
 and-true true b e = (refl, e)

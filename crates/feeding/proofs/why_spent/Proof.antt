@@ -1,10 +1,10 @@
--- `report::why_spent` meets its contract, by its test. Assumes nothing.
+-- `feeding::why_spent` meets its contract, by its test. Assumes nothing.
 use mathlib.Core.Path.{sym, ap}
 use mathlib.Core.Bool.{Bool, cond}
 use borrow.Author.Tests.{lt-ltb, le-ltb}
-use Rattle.report.specs.Feed.{full, outOfNumbers}
-use Rattle.report.proofs.why_spent.Statement.{statement}
-use Rattle.report.proofs.why_spent.Tie as tie
+use Rattle.feeding.specs.Feed.{full, outOfNumbers}
+use Rattle.feeding.proofs.why_spent.Statement.{statement}
+use Rattle.feeding.proofs.why_spent.Tie as tie
 
 returns : tie.Need-returns
 returns c = ap (λ (b : Bool). cond b full outOfNumbers) (sym (lt-ltb _ 64 (c .if1 .taken)))

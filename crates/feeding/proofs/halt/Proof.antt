@@ -1,13 +1,13 @@
--- `report::halt` meets its contract. Assumes nothing.
+-- `feeding::halt` meets its contract. Assumes nothing.
 use native.Mathlib.Omega.{arith}
 use borrow.Author.Needs.{needs}
 use mathlib.Core.Path.{sym, ap, _∙_}
 use Rattle.state.specs.Reading.{outcomeOf}
 use Rattle.text.proofs.Putting.{none}
-use Rattle.report.specs.declared.Pause.the-variants.{Wants, Ended}
-use Rattle.report.proofs.Told.{halted-ends, halted-waits, halted-none, paused-fed}
-use Rattle.report.proofs.halt.Statement.{statement}
-use Rattle.report.proofs.halt.Tie as tie
+use Rattle.feeding.specs.declared.Pause.the-variants.{Wants, Ended}
+use Rattle.feeding.proofs.Told.{halted-ends, halted-waits, halted-none, paused-fed}
+use Rattle.feeding.proofs.halt.Statement.{statement}
+use Rattle.feeding.proofs.halt.Tie as tie
 
 enum-known-o : tie.Need-enum-known-o
 enum-known-o c = search needs

@@ -16,9 +16,9 @@ use Rattle.state.specs.State.{emptyWitness, modelOf, stored}
 use Rattle.state.specs.declared.Witness.{Witness}
 use Rattle.text.specs.Put.{Put}
 use Rattle.state.specs.Sound.{sound?}
-use Rattle.report.specs.declared.Fed.{Fed}
-use Rattle.report.specs.declared.Pause.{Pause}
-use Rattle.report.specs.declared.Pause.the-variants.{Wants, Full, OutOfNumbers, Ended, Refused}
+use Rattle.feeding.specs.declared.Fed.{Fed}
+use Rattle.feeding.specs.declared.Pause.{Pause}
+use Rattle.feeding.specs.declared.Pause.the-variants.{Wants, Full, OutOfNumbers, Ended, Refused}
 
 -- Why a call paused: it wants more of the log, since nothing is left or the last record is cut; the buffer has no room for
 -- another line, or for the last text; no record number is left; the report has ended, and nothing more belongs to it; or the

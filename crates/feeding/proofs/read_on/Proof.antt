@@ -1,4 +1,4 @@
--- `report::read_on` meets its contract. The loop's invariant: the text so far, and what reading on from here comes to, is the
+-- `feeding::read_on` meets its contract. The loop's invariant: the text so far, and what reading on from here comes to, is the
 -- whole (`Sofar`); and there are 1024 rows. The measure is how many record numbers are left. Assumes nothing.
 use Prim.Native.Nat.{ℕ, _+_, _-_, _≤_}
 use native.Mathlib.Omega.{arith}
@@ -10,10 +10,10 @@ use borrow.Author.Needs.{needs}
 use Rattle.model.specs.Answer.{answer}
 use Rattle.model.specs.Change.{nothingLeft}
 use Rattle.text.proofs.Putting.{kept}
-use Rattle.report.specs.Feed.{feedFrom, lastNumber}
-use Rattle.report.proofs.Onward.{Sofar, none-yet, end-inside, room-and-number, spent-here, May, few-records, rows-long, batch-here, room-left, halted-last}
-use Rattle.report.proofs.read_on.Statement.{statement}
-use Rattle.report.proofs.read_on.Tie as tie
+use Rattle.feeding.specs.Feed.{feedFrom, lastNumber}
+use Rattle.feeding.proofs.Onward.{Sofar, none-yet, end-inside, room-and-number, spent-here, May, few-records, rows-long, batch-here, room-left, halted-last}
+use Rattle.feeding.proofs.read_on.Statement.{statement}
+use Rattle.feeding.proofs.read_on.Tie as tie
 
 abbrev Inv-loop : tie.InvT-loop
 Inv-loop records log at buf₀ rows₀ held₀ k₀ next₀ end₀ buf rows held k next end =

@@ -27,11 +27,11 @@ use Rattle.reader.specs.Many.{Ended, Many, readMany, rowOf, endOf, endedTold, I
 use Rattle.reader.specs.declared.Batch.{Batch}
 use Rattle.text.specs.Put.{Put}
 use Rattle.text.proofs.Putting as Putting
-use Rattle.report.specs.Feed.{Feeding, pausedAt, ahead, lineRoom, lastNumber, spent, halted, feedFrom, pausedOf, IsFed}
-use Rattle.report.specs.Rows.{rowLines}
-use Rattle.report.specs.declared.Fed.{Fed}
-use Rattle.report.specs.declared.Pause.{Pause}
-use Rattle.report.proofs.Rows.{and-true, told-more, passed-line}
+use Rattle.feeding.specs.Feed.{Feeding, pausedAt, ahead, lineRoom, lastNumber, spent, halted, feedFrom, pausedOf, IsFed}
+use Rattle.feeding.specs.Rows.{rowLines}
+use Rattle.feeding.specs.declared.Fed.{Fed}
+use Rattle.feeding.specs.declared.Pause.{Pause}
+use Rattle.feeding.proofs.Rows.{and-true, told-more, passed-line}
 
 -- `whole` is what the call comes to; the text so far stands in the buffer, from 0 to `end`
 pub record Sofar (whole : Feeding) (log : List ℕ) (at : ℕ) (before : List ℕ) (buf : List ℕ) (held : Witness) (k next end : ℕ) : Type 0 where

@@ -1,4 +1,4 @@
--- `report::refused_lines` meets its contract. The loop's invariant: the lines of the first `i` rows are written. Assumes nothing.
+-- `feeding::refused_lines` meets its contract. The loop's invariant: the lines of the first `i` rows are written. Assumes nothing.
 use Prim.Native.Nat.{ℕ, _+_, _*_, _-_, _≤_}
 use native.Mathlib.Omega.{arith}
 use mathlib.Core.Path.{sym, ap, subst₂}
@@ -8,10 +8,10 @@ use lib.ListN.{length, take, getD}
 use lib.Seq.{take-all}
 use Rattle.text.specs.Put.{Put}
 use Rattle.text.proofs.Putting.{none, spelled, kept, next}
-use Rattle.report.specs.Rows.{rowLine, rowLines}
-use Rattle.report.proofs.Rows.{row-none, row-some, front-more}
-use Rattle.report.proofs.refused_lines.Statement.{statement}
-use Rattle.report.proofs.refused_lines.Tie as tie
+use Rattle.feeding.specs.Rows.{rowLine, rowLines}
+use Rattle.feeding.proofs.Rows.{row-none, row-some, front-more}
+use Rattle.feeding.proofs.refused_lines.Statement.{statement}
+use Rattle.feeding.proofs.refused_lines.Tie as tie
 
 abbrev Inv-loop : tie.InvT-loop
 Inv-loop buf₀ at k rows end₀ i₀ buf end i = (i ≤ length rows) × (end ≤ at + 64 * i) × Put buf₀ at (rowLines k (take i rows)) buf end
