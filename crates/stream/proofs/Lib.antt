@@ -1,3 +1,2 @@
-mod Turning
-pub mod Waiting
+mod Turned
 pub mod Report

@@ -24,7 +24,7 @@ use Rattle.turns.specs.declared.Fate.{Fate}
 use Rattle.turns.specs.declared.Fate.the-variants.{Open, Whole, Ended, Failed}
 use Rattle.turns.specs.declared.Turn.{Turn}
 use Rattle.stream.specs.Reads.{Turned, Reached, at-start, one-more, WritesReport}
-use Rattle.stream.specs.Turns.{callOf, atHand, callAt, fateAt, Called}
+use Rattle.steps.specs.Turns.{callOf, atHand, callAt, fateAt, Called}
 
 -- ---- what follows a pause
 

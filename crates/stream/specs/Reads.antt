@@ -12,7 +12,7 @@ use Rattle.buffered.specs.Hold.{ready?}
 use Rattle.turns.specs.Turns.{Starts}
 use Rattle.turns.specs.declared.Fate.the-variants.{Open, Whole, Ended}
 use Rattle.turns.specs.declared.Turn.{Turn}
-use Rattle.stream.specs.Turns.{atHand, callAt, Stepped}
+use Rattle.steps.specs.Turns.{atHand, callAt, Stepped}
 use Rattle.stream.specs.declared.Log.{Log}
 
 -- One turn more: a read adds the bytes that it brought to the log, and a call adds its text to what was written.

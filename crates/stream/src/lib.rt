@@ -8,7 +8,6 @@ ghost use Prim.Native.Nat.{_≤_};
 ghost use lib.ListN.{length};
 ghost use Rattle.feeding.specs.Feed.{IsFed, endCall};
 ghost use Rattle.stream.specs.Reads.{Reads, Leaves, IsRead};
-ghost use Rattle.stream.specs.Turns.{callOf, Advanced, Stepped};
 
 // What is left of a log that was read to its end: the bytes of a record that stays cut, the number of the next
 // record, and the witness.
@@ -17,63 +16,6 @@ pub struct Log {
     pub left: usize,
     pub records: u64,
     pub witness: Witness,
-}
-
-// The log's first bytes where none was read yet, else the records that are at hand.
-fn call(w: Witness, begun: bool, at_end: bool, records: u64, input: &[u8], output: &mut [u8]) -> Fed
-    ensures { λ r. ⌜
-        IsFed
-        (callOf begun «at_end» (length (now (output .entry))) w records (now (input .entry)))
-        0
-        0
-        (now (output .entry))
-        r
-        (now (output .exit))
-        ⌝ }
-{
-    if begun {
-        return report::feed(w, records, input, 0, output);
-    }
-    report::open(w, input, at_end, output)
-}
-
-// One call on the bytes at hand; those that it did not pass over are moved to the front.
-fn advance(t: Turn, input: &mut [u8], output: &mut [u8]) -> Turn
-    requires { ⌜ t .have ≤ length (now input) ⌝ }
-    ensures { λ r. ⌜
-        Advanced t (now (input .entry)) (now (output .entry)) r (now (input .exit)) (now (output .exit))
-        ⌝ }
-{
-    let held = t.witness;
-    let have = t.have;
-    let fed = call(held, t.begun, t.at_end, t.records, &input[..have], output);
-    let pause = fed.pause;
-    let after = fed.witness;
-    let next = fed.next;
-    let fate = turns::fate_after(pause, t.begun & t.at_end);
-    let left = buffered::keep(input, next, have);
-    Turn {
-        fate,
-        begun: t.begun | (0 < next),
-        at_end: t.at_end,
-        have: left,
-        records: fed.records,
-        witness: after,
-        written: fed.written,
-    }
-}
-
-// One turn: a call where the bytes at hand are worth one, and what it wrote is written out; else a read.
-fn step(fd: i32, t: Turn, lines: bool, input: &mut [u8], output: &mut [u8]) -> Turn
-    requires { ⌜ (t .have ≤ length (now input)) × (75 ≤ length (now input)) ⌝ }
-    ensures { λ r. ⌜ Stepped t (now (input .entry)) (length (now (output .entry))) r (now (input .exit)) ⌝ }
-{
-    let have = t.have;
-    if buffered::is_ready(t.begun, t.at_end, &input[..have]) {
-        let called = advance(t, input, output);
-        return turns::tell(called, lines, output);
-    }
-    turns::refill(fd, t, input)
 }
 
 // Turn after turn, to the log's end or its stop. A proved loop has to end, and nothing says that a file does: so it
@@ -89,7 +31,7 @@ fn read_pieces(fd: i32, lines: bool, input: &mut [u8], output: &mut [u8]) -> Tur
         let Fate::Open = fate else {
             return t;
         };
-        t = step(fd, t, lines, input, output);
+        t = steps::step(fd, t, lines, input, output);
         turns -= 1;
     }
     t

@@ -1,6 +1,6 @@
 -- `stream::read_log` meets its contract. Assumes nothing.
 use borrow.Author.Needs.{needs}
-use Rattle.stream.proofs.Turning.{is-read}
+use Rattle.stream.proofs.Turned.{is-read}
 use Rattle.stream.proofs.read_log.Statement.{statement}
 use Rattle.stream.proofs.read_log.Tie as tie
 

@@ -6,7 +6,7 @@ use mathlib.Core.List.{[]}
 use borrow.Author.Needs.{needs}
 use lib.ListN.{length}
 use Rattle.stream.specs.Reads.{at-start, Reads}
-use Rattle.stream.proofs.Turning.{turned}
+use Rattle.stream.proofs.Turned.{turned}
 use Rattle.stream.proofs.read_pieces.Statement.{statement}
 use Rattle.stream.proofs.read_pieces.Tie as tie
 

@@ -1,9 +1,9 @@
--- `stream::call` meets its contract. Assumes nothing.
+-- `steps::call` meets its contract. Assumes nothing.
 use mathlib.Core.Bool.{true, false}
 use borrow.Author.Needs.{needs}
-use Rattle.stream.proofs.Turning.{by-begun}
-use Rattle.stream.proofs.call.Statement.{statement}
-use Rattle.stream.proofs.call.Tie as tie
+use Rattle.steps.proofs.Turning.{by-begun}
+use Rattle.steps.proofs.call.Statement.{statement}
+use Rattle.steps.proofs.call.Tie as tie
 
 feed-requires : tie.Need-feed-requires
 feed-requires c κs = search needs

@@ -1,13 +1,13 @@
--- `stream::step` meets its contract. Assumes nothing.
+-- `steps::step` meets its contract. Assumes nothing.
 use native.Mathlib.Omega.{arith}
 use mathlib.Core.Path.{sym, _∙_}
 use lib.ListN.{take}
 use lib.Seq.{length-take-le}
 use borrow.Author.Needs.{needs}
 use Rattle.buffered.proofs.Ready.{few}
-use Rattle.stream.proofs.Turning.{call-told, only-read}
-use Rattle.stream.proofs.step.Statement.{statement}
-use Rattle.stream.proofs.step.Tie as tie
+use Rattle.steps.proofs.Turning.{call-told, only-read}
+use Rattle.steps.proofs.step.Statement.{statement}
+use Rattle.steps.proofs.step.Tie as tie
 
 slice-reshare-prefix-is-ready : tie.Need-slice-reshare-prefix-is-ready
 slice-reshare-prefix-is-ready c = search needs

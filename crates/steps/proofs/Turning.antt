@@ -14,11 +14,9 @@ use Rattle.pieces.proofs.Inside.{feed-passes, open-passes}
 use Rattle.buffered.specs.Hold.{ready?}
 use Rattle.turns.specs.Turns.{fateOf, Refilled, toldAs, Told}
 use Rattle.turns.specs.declared.Fate.{Fate}
-use Rattle.turns.specs.declared.Fate.the-variants.{Open, Failed}
+use Rattle.turns.specs.declared.Fate.the-variants.{Failed}
 use Rattle.turns.specs.declared.Turn.{Turn}
-use Rattle.stream.specs.Reads.{one-more, Reads, Leaves, IsRead}
-use Rattle.stream.specs.Turns.{callOf, atHand, callAt, fateAt, Advanced, Stepped}
-use Rattle.stream.specs.declared.Log.{Log}
+use Rattle.steps.specs.Turns.{callOf, atHand, callAt, fateAt, Advanced, Stepped}
 
 -- ---- the call
 
@@ -81,17 +79,3 @@ module _ (t : Turn) (input output : List ℕ) where
 
   pub only-read : {r : Turn} {after : List ℕ} → ready? (t .begun) (t .«at_end») (atHand t input) ≡ false → Refilled t input r after → Stepped t input (length output) r after
   only-read is done = record { inside = done .filled .inside; called = λ e. absurd (true≢false (sym e ∙ is)); read = λ e. done }
-
--- one turn more
-pub turned : (room : ℕ) {had : ℕ} {t r : Turn} {input after : List ℕ} → had ≡ room → Reads room t input → t .fate ≡ Open → Stepped t input had r after → Reads room r after
-turned room {had} {t} {r} {input} {after} same reads goes-on stepped =
-    record {
-      log = _;
-      text = _;
-      reached = one-more (reads .reached) (record { goes-on = goes-on; stepped = subst (λ (n : ℕ). Stepped t input n r after) same stepped; came = refl; wrote = refl });
-    }
-
--- the last of them
-pub is-read : {room had : ℕ} {t : Turn} {input : List ℕ} {r : Log} → room ≡ had → Reads had t input → Leaves t r → IsRead room r
-is-read {room} {had} {t} {input} {r} same reads leaves =
-    record { turn = t; input = input; reads = subst (λ (n : ℕ). Reads n t input) (sym same) reads; leaves = leaves }

@@ -18,7 +18,7 @@ use Rattle.state.specs.Sound.{sound?}
 use Rattle.feeding.specs.Feed.{wants, pausedAt, lineRoom, lastNumber, halted, feedFrom, onSound, feedCall}
 use Rattle.pieces.proofs.Pieces.{open-waits}
 use Rattle.buffered.specs.Hold.{whole?, ready?}
-use Rattle.stream.specs.Turns.{callOf, CallWaits}
+use Rattle.steps.specs.Turns.{callOf, CallWaits}
 
 module _ (room : ℕ) (w : Witness) (k : ℕ) (s : List ℕ) (sound : sound? w ≡ true) (fits : lineRoom ≤ room) (numbered : k < lastNumber) where
   -- where no record can be passed

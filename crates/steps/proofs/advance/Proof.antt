@@ -1,12 +1,12 @@
--- `stream::advance` meets its contract. Assumes nothing.
+-- `steps::advance` meets its contract. Assumes nothing.
 use native.Mathlib.Omega.{arith}
 use mathlib.Core.Path.{sym}
 use lib.ListN.{length, take}
 use lib.Seq.{length-take-le}
 use borrow.Author.Needs.{needs}
-use Rattle.stream.proofs.Turning.{call-passes, advanced}
-use Rattle.stream.proofs.advance.Statement.{statement}
-use Rattle.stream.proofs.advance.Tie as tie
+use Rattle.steps.proofs.Turning.{call-passes, advanced}
+use Rattle.steps.proofs.advance.Statement.{statement}
+use Rattle.steps.proofs.advance.Tie as tie
 
 slice-reshare-prefix-call : tie.Need-slice-reshare-prefix-call
 slice-reshare-prefix-call c = search needs

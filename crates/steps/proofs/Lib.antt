@@ -1,0 +1,2 @@
+mod Turning
+pub mod Waiting
