@@ -1,3 +1,2 @@
 mod Onward
 mod Calls
-mod Asked

@@ -1,2 +1,1 @@
 pub mod IsReplay
-pub mod Book

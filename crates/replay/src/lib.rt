@@ -1,23 +1,16 @@
 // What ties the theorem of crate guarantee to code: a log read from its header on, so many of its records as are asked
-// for, to its end or its stop; and then asked.
-use checker::CheckAnswer;
-use model::Place;
-use model::WriteAnswer;
+// for, to its end or its stop.
 use state::Outcome;
 use state::Start;
 use state::Witness;
-use witness::ConflictAnswer;
-use witness::StatusAnswer;
 ghost use mathlib.Core.Path.{_≡_};
 ghost use Prim.Native.Nat.{_≤_, _<_};
 ghost use lib.ListN.{drop};
 ghost use Rattle.model.specs.Answer.{answer};
 ghost use Rattle.model.specs.Change.{nothingLeft};
 ghost use Rattle.model.specs.Run.{readings};
-ghost use Rattle.model.specs.Log.{header};
 ghost use Rattle.state.specs.Sound.{Sound};
 ghost use Rattle.guarantee.specs.LogRead.{readOn};
-ghost use Rattle.replay.specs.Book.{IsAnswers, bookBuffer};
 ghost use Rattle.replay.specs.IsReplay.{readOf, IsReplay};
 
 // What reading came to: what the last record read came to (`Nothing` where none was read), how many were read, and the
@@ -104,50 +97,6 @@ pub fn replay(w: Witness, log: &[u8], limit: u64) -> Replayed
                 records: 0,
                 witness: empty,
             },
-        },
-    }
-}
-
-// What can be asked of a log: what the last record read came to and how many were read, the standing of a place, the
-// conflict, our list, and a list that someone handed in.
-pub struct Answers {
-    pub last: Outcome,
-    pub records: u64,
-    pub status: StatusAnswer,
-    pub conflict: ConflictAnswer,
-    pub ours: WriteAnswer,
-    pub theirs: CheckAnswer,
-}
-
-// A log read from its header to its end or its stop, or to its first `limit` records, then asked; our list goes into
-// `buf`. The witness handed in plays no part.
-pub fn ask(w: Witness, log: &[u8], limit: u64, p: Place, theirs: &[u8], buf: &mut [u8]) -> Answers
-    ensures { λ r. ⌜
-        IsAnswers (now (log .entry)) limit (p .0) (now (theirs .entry)) (now (buf .entry)) r
-        × (now (buf .exit) ≡ bookBuffer (header (now (log .entry))) limit (now (log .entry)) (now (buf .entry)))
-        ⌝ }
-{
-    let replayed = replay(w, log, limit);
-    let start = replayed.start;
-    let read = replayed.read;
-    let last = read.last;
-    let held = read.witness;
-    match start {
-        Start::Begun => Answers {
-            last,
-            records: read.records,
-            status: witness::status(held, p),
-            conflict: witness::conflict(held),
-            ours: witness::write_list(held, buf),
-            theirs: witness::check_list(held, theirs),
-        },
-        Start::Refused(refusal) => Answers {
-            last: Outcome::Refused(refusal),
-            records: 0,
-            status: StatusAnswer::Refused(refusal),
-            conflict: ConflictAnswer::Refused(refusal),
-            ours: WriteAnswer::Refused(refusal),
-            theirs: CheckAnswer::Refused(refusal),
         },
     }
 }

@@ -1213,7 +1213,7 @@ fn say_cut(w: Witness, log: &[u8]) {
 fn say_asked(log: &[u8], limit: u64) {
     let list = [70u8, 70, 80, 0, 1, 0, 1, 0, 2, 0, 1, 0, 4];
     let mut buf = [255u8; 16];
-    let answers = replay::ask(blank::blank(), log, limit, Place(4), &list, &mut buf);
+    let answers = ask::ask(blank::blank(), log, limit, Place(4), &list, &mut buf);
     let last = answers.last;
     let status = answers.status;
     let conflict = answers.conflict;

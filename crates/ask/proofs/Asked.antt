@@ -25,12 +25,12 @@ use Rattle.witness.specs.Answers.{statusOf, conflictOf}
 use Rattle.witness.specs.Calls.{onSound, statusCall, conflictCall, writeCall, writeBuffer, checkCall}
 use Rattle.witness.specs.declared.StatusAnswer.the-variants.{Refused as RefusedStatus}
 use Rattle.witness.specs.declared.ConflictAnswer.the-variants.{Refused as RefusedConflict}
-use Rattle.replay.specs.Book.{book, onBook, bookLast, recordsRead, IsAnswers, bookBuffer}
+use Rattle.ask.specs.Book.{book, onBook, bookLast, recordsRead, IsAnswers, bookBuffer}
 use Rattle.guarantee.specs.LogRead.{Reads, recordsOf, replayed}
 use Rattle.replay.specs.IsReplay.{readOf, IsReplay}
 use Rattle.reader.specs.Many.{lastTold}
-use Rattle.replay.specs.declared.Answers.{Answers}
+use Rattle.ask.specs.declared.Answers.{Answers}
 use Rattle.replay.specs.declared.Replayed.{Replayed}
 use Rattle.state.proofs.Started.{header-name}
 use Rattle.guarantee.proofs.Demand.{Holds, start-holds, records-bytes, run-holds, run-told, answered, buffer-is}
 

@@ -16,7 +16,7 @@ use Rattle.model.specs.Run.{after, outcomes}
 use Rattle.checker.specs.Check.{checkOf}
 use Rattle.state.specs.Reading.{outcomeOf}
 use Rattle.witness.specs.Answers.{statusOf, conflictOf}
-use Rattle.replay.specs.declared.Answers.{Answers}
+use Rattle.ask.specs.declared.Answers.{Answers}
 use Rattle.reader.specs.Many.{lastTold}
 use Rattle.guarantee.specs.LogRead.{recordsOf}
 

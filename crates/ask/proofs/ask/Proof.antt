@@ -1,10 +1,10 @@
--- `replay::ask` meets its contract: the log is read, and each call answers on the witness that it leaves. Assumes nothing.
+-- `ask::ask` meets its contract: the log is read, and each call answers on the witness that it leaves. Assumes nothing.
 use mathlib.Core.Path.{refl, _∙_}
 use borrow.Author.Needs.{needs}
 use Rattle.model.specs.Bytes.{AreBytes}
-use Rattle.replay.proofs.Asked.{answers-begun, answers-refused, buffer-begun, buffer-refused}
-use Rattle.replay.proofs.ask.Statement.{statement}
-use Rattle.replay.proofs.ask.Tie as tie
+use Rattle.ask.proofs.Asked.{answers-begun, answers-refused, buffer-begun, buffer-refused}
+use Rattle.ask.proofs.ask.Statement.{statement}
+use Rattle.ask.proofs.ask.Tie as tie
 
 replay-requires : tie.Need-replay-requires
 replay-requires c κs = search needs
