@@ -1,6 +1,7 @@
 // bench: the library's time beside plain Rust's, in one run: both at -O, in turn, the least of several rounds. Times are in
 // microseconds. A call of the library that takes a state checks it first (row 40); where a line says so that check's
 // own time is taken off.
+mod hashed;
 #[allow(dead_code)]
 mod library;
 #[allow(dead_code)]
@@ -17,6 +18,7 @@ mod session;
 #[allow(dead_code)]
 mod states;
 
+use std::collections::HashMap;
 use std::hint::black_box;
 use std::time::Instant;
 
@@ -25,6 +27,9 @@ const ROUNDS: usize = 15;
 // So many votes more than a witness holds: each is searched for like one that is taken, and then refused by row 36. The
 // time of one record into a full witness is the time that a log takes longer with them.
 const MORE: usize = 8000;
+
+// So many bundles of 128 votes fill a witness.
+const BUNDLES: usize = 32;
 
 // What is timed: a name, and a call.
 type Timed<'a> = (&'static str, Box<dyn FnMut() + 'a>);
@@ -35,13 +40,14 @@ fn done<T>(result: T) {
 }
 
 // The least time of each in microseconds, each round running all of them in turn.
-fn least(timed: &mut [Timed]) -> Vec<f64> {
-    let mut best = vec![f64::INFINITY; timed.len()];
+fn least(mut timed: Vec<Timed>) -> HashMap<&'static str, f64> {
+    let mut best: HashMap<&str, f64> = timed.iter().map(|(name, _)| (*name, f64::INFINITY)).collect();
     for _ in 0..ROUNDS {
-        for (i, (_, call)) in timed.iter_mut().enumerate() {
+        for (name, call) in &mut timed {
             let start = Instant::now();
             call();
-            best[i] = best[i].min(start.elapsed().as_secs_f64() * 1e6);
+            let time = start.elapsed().as_secs_f64() * 1e6;
+            best.entry(*name).and_modify(|b| *b = b.min(time));
         }
     }
     best
@@ -59,6 +65,36 @@ fn report(before: &library::Witness, log: &[u8], lines: &mut [u8]) -> Vec<u8> {
     let closed = fed.witness.close(fed.records, log.len() - fed.next, lines);
     text.extend(&lines[..closed.written]);
     text
+}
+
+// Bundles of everyone's votes, which fill a witness that has none: beside plain Rust, and beside the same votes as
+// single records. The time of the members and checkpoints before them is taken off.
+fn bundles(nothing: &library::Witness) {
+    let before = logs::carried_log(1, 0, true);
+    let bundled = logs::carried_log(1, BUNDLES, true);
+    let single = logs::carried_log(1, BUNDLES, false);
+    let records = &bundled[before.len()..];
+    let held = nothing.replay(&bundled).witness;
+    let mut reader = hashed::Reader::of(&nothing.replay(&before).witness);
+    let mut place = library::Witness::nothing();
+    assert!(held.vote_count == 4096 && held == nothing.replay(&single).witness);
+    assert!(plain::read_log(&mut place, &bundled) == 0 && *place == held);
+    assert!(reader.read_bundles(records) == 0 && *reader.witness == held);
+
+    let times = least(vec![
+        ("before", Box::new(|| done(nothing.replay(black_box(&before))))),
+        ("bundles", Box::new(|| done(nothing.replay(black_box(&bundled))))),
+        ("single votes", Box::new(|| done(nothing.replay(black_box(&single))))),
+        ("plain: bundles", Box::new(|| done(reader.read_bundles(black_box(records))))),
+        ("hashed: before", Box::new(|| done(reference::read_log(black_box(&before))))),
+        ("hashed: bundles", Box::new(|| done(reference::read_log(black_box(&bundled))))),
+    ]);
+    let ours = times["bundles"] - times["before"];
+    let hashed = times["hashed: bundles"] - times["hashed: before"];
+    let each = BUNDLES as f64;
+    line("a bundle of 128 votes", ours / each, "the reference", hashed / each);
+    line("a bundle of 128 votes", ours / each, "plain Rust, hash map and set", times["plain: bundles"] / each);
+    line("32 bundles of 128 beside 4,096 votes", ours, "the library", times["single votes"] - times["before"]);
 }
 
 fn main() {
@@ -82,7 +118,7 @@ fn main() {
     let mut sheets = vec![0; paper::LONGEST];
     assert!(held.write_paper(&mut sheets) == Ok(paper::LONGEST as u64) && sheets == hashed.paper());
 
-    let mut timed: Vec<Timed> = vec![
+    let times = least(vec![
         ("ours: log", Box::new(|| done(nothing.replay(black_box(nearly))))),
         ("ours: log and more", Box::new(|| done(nothing.replay(black_box(&further))))),
         ("plain: log", Box::new(|| done(plain::read_log(&mut place, black_box(nearly))))),
@@ -104,10 +140,8 @@ fn main() {
         ("hashed: paper", Box::new(|| done(black_box(&hashed).paper()))),
         ("ours: one record", Box::new(|| done(black_box(&almost).read(&full, nearly.len())))),
         ("ours: row 40, one vote less", Box::new(|| done(black_box(&almost).is_sound()))),
-    ];
-    let names: Vec<&str> = timed.iter().map(|(name, _)| *name).collect();
-    let best = least(&mut timed);
-    let t = |name: &str| best[names.iter().position(|n| *n == name).expect("it is timed")];
+    ]);
+    let t = |name: &str| times[name];
     let each = |who: &str| (t(&format!("{who}: log and more")) - t(&format!("{who}: log"))) / MORE as f64;
 
     println!("{:44} {:>10} {:>10} {:>7}  beside", "128 members, 512 checkpoints, 4,096 votes", "ours", "theirs", "ratio");
@@ -123,5 +157,6 @@ fn main() {
     line("a list's check, row 40 with it", t("ours: check"), "the reference", t("hashed: check") + t("hashed: row 40"));
     line("our list, less row 40", t("ours: list") - t("ours: row 40"), "the reference", t("hashed: list"));
     line("the board paper, less row 40", t("ours: paper") - t("ours: row 40"), "the reference", t("hashed: paper"));
+    bundles(&nothing);
     println!("a record by a call of its own: {:.2} of which row 40 {:.2}", t("ours: one record"), t("ours: row 40, one vote less"));
 }

@@ -1,9 +1,9 @@
 // The library beside the reference: everything that is asked of a log, of a list of charges and of a state. A difference
 // is told with both answers.
-use crate::library::{self, Answer, REFUSED};
+use crate::library::{self, Answer, Told, REFUSED};
 use crate::paper;
 use crate::random::Random;
-use crate::reference::{self, Reading, Refusal, Status, HEADER};
+use crate::reference::{self, Outcome, Reading, Refusal, Status, HEADER, MAX_MEMBERS};
 use crate::report;
 use crate::states;
 use crate::tally::Tally;
@@ -20,6 +20,10 @@ pub fn same<T: PartialEq + Debug>(what: &str, library: T, reference: T) -> Same 
 
 // What a lent buffer holds before a call.
 pub const UNWRITTEN: u8 = 0xa5;
+
+pub fn is_unwritten(buffer: &[u8]) -> bool {
+    buffer.iter().all(|b| *b == UNWRITTEN)
+}
 
 // Two buffers of one length. They may be long, so a difference is told by what stands near the first byte that differs.
 fn same_bytes(what: &str, library: &[u8], reference: &[u8]) -> Same {
@@ -43,7 +47,7 @@ pub fn log(log: &[u8], before: &library::Witness, random: &mut Random, tally: &m
     match reading.stopped {
         Some((number @ (1 | 2 | 3), _)) => {
             let number = u64::from(number);
-            same("header", (replay.header, replay.refused, replay.taken, replay.records), (number, 0, 0, 0))?;
+            same("header", (replay.header, replay.records, replay.told), (number, 0, told(&Outcome::Nothing)))?;
             same("the state that a refused header leaves", replay.witness == *before, true)?;
             let begun = before.begin(log);
             same("header, alone", (begun.refused, begun.witness == *before), (number, true))?;
@@ -51,7 +55,7 @@ pub fn log(log: &[u8], before: &library::Witness, random: &mut Random, tally: &m
         _ => {
             same("header", replay.header, 0)?;
             held(&replay.witness, &reading.witness)?;
-            outcomes(log, before, &reading, &replay)?;
+            outcomes(log, before, &reading, &replay, random)?;
             answers(&replay.witness, &reading.witness, random, tally)?;
         }
     }
@@ -93,46 +97,54 @@ fn offsets(log: &[u8]) -> Vec<usize> {
     all
 }
 
-// What the last record comes to, of the whole log and of its first half.
-fn last_outcome(before: &library::Witness, log: &[u8], reading: &Reading, whole: &library::Replay, records: usize) -> Same {
-    let half = before.replay_some(log, records as u64 / 2);
-    for (replay, read) in [(whole, records), (&half, records / 2)] {
-        let refused = reading.refused.iter().find(|(number, _)| number + 1 == read).map(|(_, row)| *row);
-        let stopped = reading.stopped.filter(|(_, number)| number + 1 == read).map(|(row, _)| row);
-        let row = refused.or(stopped).unwrap_or(0);
-        let taken = u64::from(read > 0 && row == 0);
-        same("the last record", (replay.records, replay.refused, replay.taken), (read as u64, row.into(), taken))?;
+// An outcome as the library tells it. The rows are those of a bundle's votes, and 0 past them.
+fn told(outcome: &Outcome) -> Told {
+    let mut told = Told { refused: 0, taken: 0, votes: 0, rows: [0; MAX_MEMBERS] };
+    match outcome {
+        Outcome::Nothing => {}
+        Outcome::Taken => told.taken = 1,
+        Outcome::Refused(row) => told.refused = u64::from(*row),
+        Outcome::Bundle(rows) => {
+            told.votes = rows.len() as u64;
+            told.rows[..rows.len()].copy_from_slice(rows);
+        }
     }
-    Ok(())
+    told
+}
+
+// What is told of the last record read, of the whole log or of its first records.
+fn last_outcome(replay: &library::Replay, reading: &Reading, records: usize) -> Same {
+    let last = records.checked_sub(1).map_or(&Outcome::Nothing, |number| &reading.outcomes[number]);
+    same("the last record", (replay.records, replay.told), (records as u64, told(last)))
 }
 
 // What each record comes to, one call for each: all of a short log, the last ones of a long one.
-fn outcomes(log: &[u8], before: &library::Witness, reading: &Reading, after: &library::Replay) -> Same {
+fn outcomes(
+    log: &[u8],
+    before: &library::Witness,
+    reading: &Reading,
+    after: &library::Replay,
+    random: &mut Random,
+) -> Same {
     let offsets = offsets(log);
-    last_outcome(before, log, reading, after, offsets.len())?;
+    last_outcome(after, reading, offsets.len())?;
+    let some = random.below(offsets.len() + 1);
+    last_outcome(&before.replay_some(log, some as u64), reading, some)?;
     let first = offsets.len().saturating_sub(MANY_RECORDS);
     let mut at = offsets.get(first).copied().unwrap_or(log.len());
     let mut w = Box::new(before.replay(&log[..at]).witness);
-    let mut refused = Vec::new();
-    let mut stopped = None;
     for number in first..offsets.len() {
         let r = w.read(log, at);
-        match r.refused as u8 {
-            0 => same("a record that is not refused is taken", r.taken, 1)?,
-            n @ (4 | 5) => stopped = Some((n, number)),
-            n => refused.push((number, n)),
-        }
-        same("offset", r.next, offsets.get(number + 1).copied().unwrap_or(if stopped.is_some() { at } else { log.len() }))?;
+        same(&format!("record {number}"), r.told, told(&reading.outcomes[number]))?;
+        let end = if reading.stopped.is_some() { at } else { log.len() };
+        same("offset", r.next, offsets.get(number + 1).copied().unwrap_or(end))?;
         at = r.next;
         *w = r.witness;
     }
-    let expected: Vec<(usize, Refusal)> = reading.refused.iter().copied().filter(|(n, _)| *n >= first).collect();
-    same("refused", refused, expected)?;
-    same("stopped", stopped, reading.stopped)?;
     same("the state, record by record and at once", *w == after.witness, true)?;
     for past in [log.len(), log.len() + 1, usize::MAX] {
         let r = w.read(log, past);
-        same("nothing left", (r.refused, r.taken, r.next, r.witness == *w), (0, 0, past, true))?;
+        same("nothing left", (r.told, r.next, r.witness == *w), (told(&Outcome::Nothing), past, true))?;
     }
     Ok(())
 }
@@ -245,20 +257,27 @@ fn sound_state(w: &library::Witness, random: &mut Random, tally: &mut Tally) -> 
     answers(w, &r, random, tally)
 }
 
-// Where row 40 applies, every call says so and leaves everything as it was.
+// Row 40 as the answer to reading a record: none was looked at, so no row is told of one.
+const NO_RECORD: Told = Told { refused: 40, taken: 0, votes: 0, rows: [0; MAX_MEMBERS] };
+
+// Where row 40 applies, every call says so and leaves everything as it was; a buffer without room comes after it.
 fn unsound_state(w: &library::Witness, log: &[u8], list: &[u8], tally: &mut Tally) -> Same {
-    let mut buffer = [UNWRITTEN; 1000];
+    let mut buffer = [UNWRITTEN; report::ROOM];
     let read = w.read(log, HEADER);
-    same("reading", (read.refused, read.taken, read.next, read.witness == *w), (40, 0, HEADER, true))?;
-    let fed = w.feed(7, log, HEADER, &mut buffer);
-    same("feeding", (fed.pause, fed.next, fed.records, fed.written, fed.witness == *w), (REFUSED + 40, HEADER, 7, 0, true))?;
+    same("reading", (read.told, read.next, read.witness == *w), (NO_RECORD, HEADER, true))?;
+    for room in [0, report::ROOM] {
+        let fed = w.feed(7, log, HEADER, &mut buffer[..room]);
+        let told = (fed.pause, fed.next, fed.records, fed.written, fed.witness == *w);
+        same("feeding", told, (REFUSED + 40, HEADER, 7, 0, true))?;
+    }
     let closed = w.close(7, 0, &mut buffer);
-    same("closing", (closed.pause, closed.records, closed.written, closed.witness == *w), (REFUSED + 40, 7, 0, true))?;
+    let told = (closed.pause, closed.records, closed.written, closed.witness == *w);
+    same("closing", told, (REFUSED + 40, 7, 0, true))?;
     same("standing", w.status(65535), Err(40))?;
     same("backing", w.support(0, 65535), Err(40))?;
     same("conflict", w.conflict(), Err(40))?;
     same("check", w.check(list), Err(40))?;
-    same("the buffer", buffer, [UNWRITTEN; 1000])?;
+    same("the buffer", is_unwritten(&buffer), true)?;
     // row 40 comes before row 60
     let rooms = [0, 1000, paper::LONGEST];
     lent("our list", Err(40), &rooms, tally, |buffer| w.write_list(buffer))?;

@@ -43,11 +43,23 @@ pub struct Begun {
 #[repr(C)]
 struct Place(u16);
 
+// What is told of a record: the number of its refusal; 1 where a record that is no bundle was taken; how many bits a
+// bundle had set that was not refused whole; and a row for each of its votes, 0 where one was taken. The library has
+// these four as fields of `Replay` and of `Read`, which is the same layout.
+#[repr(C)]
+#[derive(Clone, Copy, PartialEq, Debug)]
+pub struct Told {
+    pub refused: u64,
+    pub taken: u64,
+    pub votes: u64,
+    pub rows: [u8; MAX_MEMBERS],
+}
+
 #[repr(C)]
 pub struct Replay {
     pub header: u64,
-    pub refused: u64,
-    pub taken: u64,
+    // of the last record that was read
+    pub told: Told,
     pub records: u64,
     pub witness: Witness,
 }
@@ -63,8 +75,7 @@ pub struct Piece {
 
 #[repr(C)]
 pub struct Read {
-    pub refused: u64,
-    pub taken: u64,
+    pub told: Told,
     pub next: usize,
     pub witness: Witness,
 }

@@ -12,6 +12,9 @@ enum Naming {
     TwoBytes,
 }
 
+// A checkpoint as a vote or a bundle tells it: its name and its height.
+type Spot = (Name, u32);
+
 struct Node {
     name: Name,
     parent: usize,
@@ -30,25 +33,27 @@ struct Maker {
 }
 
 // The kinds and the bytes of a record of each.
-const KINDS: [(u8, usize); 3] = [(1, 11), (2, 65), (3, 75)];
+const KINDS: [(u8, usize); 4] = [(1, 11), (2, 65), (3, 75), (5, 89)];
 
-// Log number `number` of a seed. Every thirty-second has its last record cut, at each length in turn.
+// Log number `number` of a seed. Every twentieth has its last record cut, at each length in turn.
 pub fn log(seed: u64, number: usize) -> Vec<u8> {
     let mut m = Maker::new(Random::of_case(seed, 1, number as u64));
-    if number % 32 == 5 {
-        return m.cut_log(number / 32);
+    if number % 20 == 5 {
+        return m.cut_log(number / 20);
     }
     match m.random.below(100) {
         0..=3 => return m.wrong_header(),
-        4..=28 => m.mixed(),
-        29..=44 => m.chain(),
-        45..=64 => m.fork(),
-        65..=84 => m.offenders(),
-        85..=89 => m.many_members(),
-        90..=92 => m.long_tree(),
-        93 => m.many_votes(),
-        94..=96 => m.rivals(),
-        _ => m.late_source(),
+        4..=25 => m.mixed(),
+        26..=40 => m.chain(),
+        41..=58 => m.fork(),
+        59..=76 => m.offenders(),
+        77..=81 => m.many_members(),
+        82..=84 => m.long_tree(),
+        85 => m.many_votes(),
+        86 => m.many_bundles(),
+        87..=89 => m.rivals(),
+        90..=92 => m.late_source(),
+        _ => m.bundles(),
     }
     m.damage();
     m.log
@@ -65,25 +70,27 @@ pub fn log_with_charges(seed: u64, number: usize) -> Vec<u8> {
     m.log
 }
 
-// A log that fills the witness: 128 members, 512 checkpoints in three long branches, and `votes` distinct votes. Half of
-// them carry a chain of 16 links with everyone's votes; the others are spread over all checkpoints.
+// A log that fills the witness: 128 members, 512 checkpoints, and `votes` distinct votes. Half of them carry a chain of
+// 16 links with everyone's votes; the others are spread over all checkpoints.
 pub fn full_log(seed: u64, votes: usize) -> Vec<u8> {
-    let mut m = Maker::new(Random::of_case(seed, 3, 0));
-    m.naming = Naming::Random;
-    m.begin();
-    m.fill_members(MAX_MEMBERS);
-    while m.tree.len() < MAX_CHECKPOINTS {
-        let parent = m.tree.len().saturating_sub(3);
-        m.checkpoint(parent);
-    }
-    let ids = m.ids.clone();
+    let mut m = Maker::full_tree(seed);
+    let everyone = m.member_places();
     for step in 0..16 {
-        for id in &ids {
-            m.vote(*id, step * 3, step * 3 + 3);
-        }
+        m.carry(&everyone, step * 3, step * 3 + 3, false);
     }
     while m.votes.len() < votes {
         m.spread_vote();
+    }
+    m.log
+}
+
+// A log of 128 members and 512 checkpoints in which everyone votes for so many links, all over the tree: by a bundle
+// for each link, or by single votes.
+pub fn carried_log(seed: u64, links: usize, bundled: bool) -> Vec<u8> {
+    let mut m = Maker::full_tree(seed);
+    let everyone = m.member_places();
+    for source in (0..links).map(|k| 15 * k) {
+        m.carry(&everyone, source, source + 3, bundled);
     }
     m.log
 }
@@ -92,6 +99,19 @@ impl Maker {
     fn new(mut random: Random) -> Maker {
         let naming = random.pick(&[Naming::Random, Naming::LastByte, Naming::FirstByte, Naming::TwoBytes]);
         Maker { random, log: Vec::new(), ids: Vec::new(), tree: Vec::new(), votes: Vec::new(), naming, last_record: 0 }
+    }
+
+    // 128 members, and 512 checkpoints in three long branches.
+    fn full_tree(seed: u64) -> Maker {
+        let mut m = Maker::new(Random::of_case(seed, 3, 0));
+        m.naming = Naming::Random;
+        m.begin();
+        m.fill_members(MAX_MEMBERS);
+        while m.tree.len() < MAX_CHECKPOINTS {
+            let parent = m.tree.len().saturating_sub(3);
+            m.checkpoint(parent);
+        }
+        m
     }
 
     // ---- records ----
@@ -134,10 +154,26 @@ impl Maker {
         self.log.extend(parent);
     }
 
-    fn put_vote(&mut self, id: u16, source: (Name, u32), target: (Name, u32)) {
+    fn put_vote(&mut self, id: u16, source: Spot, target: Spot) {
         self.last_record = self.log.len();
         self.log.push(3);
         self.log.extend(id.to_be_bytes());
+        self.put_link(source, target);
+    }
+
+    // A bundle with the bits of these places.
+    fn put_bundle(&mut self, places: &[usize], source: Spot, target: Spot) {
+        let mut bits = [0; MAX_MEMBERS / 8];
+        for p in places {
+            bits[p / 8] |= 1 << (p % 8);
+        }
+        self.last_record = self.log.len();
+        self.log.push(5);
+        self.log.extend(bits);
+        self.put_link(source, target);
+    }
+
+    fn put_link(&mut self, source: Spot, target: Spot) {
         self.log.extend(source.0);
         self.log.extend(target.0);
         self.log.extend(source.1.to_be_bytes());
@@ -159,7 +195,7 @@ impl Maker {
         self.tree.len() - 1
     }
 
-    fn at(&self, place: usize) -> (Name, u32) {
+    fn at(&self, place: usize) -> Spot {
         (self.tree[place].name, self.tree[place].height)
     }
 
@@ -167,6 +203,25 @@ impl Maker {
         let (s, t) = (self.at(source), self.at(target));
         self.put_vote(id, s, t);
         self.votes.push((id, source, target));
+    }
+
+    // A bundle of the members at these places.
+    fn bundle(&mut self, places: &[usize], source: usize, target: usize) {
+        let (s, t) = (self.at(source), self.at(target));
+        self.put_bundle(places, s, t);
+        for p in places {
+            self.votes.push((self.ids[*p], source, target));
+        }
+    }
+
+    // Votes of the members at these places for one link: a bundle, or single votes.
+    fn carry(&mut self, places: &[usize], source: usize, target: usize, bundled: bool) {
+        if bundled {
+            return self.bundle(places, source, target);
+        }
+        for p in places {
+            self.vote(self.ids[*p], source, target);
+        }
     }
 
     // ---- parts of a log ----
@@ -246,23 +301,44 @@ impl Maker {
     // Votes of all members for one link, or of most of them.
     fn push(&mut self, source: usize, target: usize) {
         let absent = self.random.pick(&[1000, 8, 3]);
-        for id in self.ids.clone() {
-            if !self.random.one_in(absent) {
-                self.vote(id, source, target);
-            }
-        }
+        let bundled = self.random.one_in(3);
+        let mut places = if bundled { self.member_places() } else { (0..self.ids.len()).collect() };
+        places.retain(|_| !self.random.one_in(absent));
+        self.carry(&places, source, target, bundled);
     }
 
+    // Votes for any link, most of them single ones.
     fn votes(&mut self, count: usize) {
         for _ in 0..count {
             if self.ids.is_empty() {
                 return;
             }
             let id = self.random.pick(&self.ids);
-            if let Some((s, t)) = self.some_link() {
-                self.vote(id, s, t);
+            match self.some_link() {
+                Some((s, t)) if self.random.one_in(6) => self.some_bundle(s, t),
+                Some((s, t)) => self.vote(id, s, t),
+                None => {}
             }
         }
+    }
+
+    // The places of all members that the witness has room for.
+    fn member_places(&self) -> Vec<usize> {
+        (0..self.ids.len().min(MAX_MEMBERS)).collect()
+    }
+
+    // Places of members: all, about half of them, fewer, or one or two. There are none only where there is no member.
+    fn some_places(&mut self) -> Vec<usize> {
+        let mut places = self.member_places();
+        let count = places.len().max(1);
+        let (one, share) = (self.random.below(count), self.random.pick(&[1, 2, 4, count]));
+        places.retain(|p| *p == one || self.random.one_in(share));
+        places
+    }
+
+    fn some_bundle(&mut self, source: usize, target: usize) {
+        let places = self.some_places();
+        self.bundle(&places, source, target);
     }
 
     // So many distinct votes, with every link of some members in turn.
@@ -295,7 +371,7 @@ impl Maker {
 
     // A record that most likely is refused.
     fn odd_record(&mut self) {
-        match self.random.below(14) {
+        match self.random.below(19) {
             0 => self.odd_member(),
             1 => {
                 let (name, parent) = (self.known_name(), self.known_name());
@@ -310,6 +386,8 @@ impl Maker {
                     self.vote(id, s, t);
                 }
             }
+            4 => self.repeat_record(),
+            5..=8 => self.odd_bundle(),
             _ => self.odd_vote(),
         }
     }
@@ -336,23 +414,74 @@ impl Maker {
         name
     }
 
+    // The last record, once more.
+    fn repeat_record(&mut self) {
+        let start = self.last_record;
+        self.last_record = self.log.len();
+        self.log.extend_from_within(start..);
+    }
+
+    // Something changed in a link as it is told.
+    fn change_link(&mut self, source: &mut Spot, target: &mut Spot) {
+        match self.random.below(6) {
+            0 => source.0 = self.strange_name(),
+            1 => target.0 = self.strange_name(),
+            2 => source.1 = source.1.wrapping_add(self.random.pick(&[1, 256, u32::MAX])),
+            3 => target.1 = target.1.wrapping_add(self.random.pick(&[1, 256, u32::MAX])),
+            4 => *target = *source,
+            _ => std::mem::swap(source, target),
+        }
+    }
+
+    // Any two places, as they are told.
+    fn any_two(&mut self) -> (Spot, Spot) {
+        let (s, t) = (self.random.below(self.tree.len()), self.random.below(self.tree.len()));
+        (self.at(s), self.at(t))
+    }
+
     // A vote with one or two things changed.
     fn odd_vote(&mut self) {
         let mut id = if self.ids.is_empty() { 9 } else { self.random.pick(&self.ids) };
-        let (s, t) = (self.random.below(self.tree.len()), self.random.below(self.tree.len()));
-        let (mut source, mut target) = (self.at(s), self.at(t));
+        let (mut source, mut target) = self.any_two();
         for _ in 0..self.random.below(3) {
-            match self.random.below(7) {
-                0 => id = self.some_id(),
-                1 => source.0 = self.strange_name(),
-                2 => target.0 = self.strange_name(),
-                3 => source.1 = source.1.wrapping_add(self.random.pick(&[1, 256, u32::MAX])),
-                4 => target.1 = target.1.wrapping_add(self.random.pick(&[1, 256, u32::MAX])),
-                5 => target = source,
-                _ => (source, target) = (target, source),
+            if self.random.one_in(7) {
+                id = self.some_id();
+            } else {
+                self.change_link(&mut source, &mut target);
             }
         }
         self.put_vote(id, source, target);
+    }
+
+    // A bundle for a link that has votes, or with one or two things changed: no bit set, bits where no member stands,
+    // another link.
+    fn odd_bundle(&mut self) {
+        let mut places = self.some_places();
+        let (mut source, mut target) = self.any_two();
+        if let Some((_, s, t)) = self.some_vote() {
+            if self.random.one_in(2) {
+                (source, target) = (self.at(s), self.at(t));
+            }
+        }
+        for _ in 0..self.random.below(3) {
+            match self.random.below(6) {
+                0 => places.clear(),
+                1 => places.extend(self.place_past_members()),
+                2 => places = self.place_past_members().into_iter().collect(),
+                _ => self.change_link(&mut source, &mut target),
+            }
+        }
+        self.put_bundle(&places, source, target);
+    }
+
+    // A place that no member has: the first such, the last or any.
+    fn place_past_members(&mut self) -> Option<usize> {
+        let first = self.ids.len();
+        if first >= MAX_MEMBERS {
+            return None;
+        }
+        let any = self.random.within(first, MAX_MEMBERS - 1);
+        Some(self.random.pick(&[first, MAX_MEMBERS - 1, any]))
     }
 
     // ---- logs ----
@@ -476,6 +605,46 @@ impl Maker {
         self.votes(3);
     }
 
+    // The table of votes, filled by bundles: one of them finds room for some of its votes, and the next for none.
+    fn many_bundles(&mut self) {
+        self.begin();
+        let members = self.random.pick(&[60, 100, 128]);
+        self.fill_members(members);
+        let length = self.random.within(200, 300);
+        self.tree(length);
+        let singles = self.random.below(MAX_VOTES);
+        self.fill_votes(singles);
+        for target in 1..self.tree.len() {
+            if self.votes.len() > MAX_VOTES + 200 {
+                break;
+            }
+            self.some_bundle(0, target);
+        }
+        self.votes(3);
+    }
+
+    // Mostly bundles, of few members or many, with single votes between them; now and then one before the members.
+    fn bundles(&mut self) {
+        self.begin();
+        if self.random.one_in(4) {
+            self.odd_bundle();
+        }
+        let members = self.random.pick(&[0, 1, 2, 7, 8, 9, 16, 17, 40, 127, 128]);
+        self.fill_members(members);
+        let length = self.random.within(1, 12);
+        self.tree(length);
+        for _ in 0..self.random.below(25) {
+            let link = self.some_link();
+            match (self.random.below(6), link) {
+                (0, _) => self.votes(1),
+                (1, _) => self.odd_record(),
+                (2, _) => self.odd_bundle(),
+                (_, Some((s, t))) => self.some_bundle(s, t),
+                _ => {}
+            }
+        }
+    }
+
     // Votes whose source is justified only by later votes.
     fn late_source(&mut self) {
         self.begin();
@@ -504,14 +673,14 @@ impl Maker {
         }
         let count = self.random.within(2, 10);
         self.tree(count);
-        let behind: [&[u16]; 8] = [&[], &[], &[2], &[2], &[3, 4], &[3, 4], &[1, 2], &[1, 3, 4]];
+        // members 1 to 4 have the places 0 to 3
+        let behind: [&[usize]; 8] = [&[], &[], &[1], &[1], &[2, 3], &[2, 3], &[0, 1], &[0, 2, 3]];
         for target in 1..self.tree.len() {
             let mut above = self.ancestors(target);
             self.random.shuffle(&mut above);
             for source in above {
-                for id in self.random.pick(&behind) {
-                    self.vote(*id, source, target);
-                }
+                let (places, bundled) = (self.random.pick(&behind), self.random.one_in(4));
+                self.carry(places, source, target, bundled);
             }
         }
     }
@@ -543,7 +712,8 @@ impl Maker {
         match kind {
             1 => self.put_member(7, 1),
             2 => drop(self.checkpoint(0)),
-            _ => self.odd_vote(),
+            3 => self.odd_vote(),
+            _ => self.odd_bundle(),
         }
         self.log.truncate(start + cut);
         std::mem::take(&mut self.log)

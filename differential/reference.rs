@@ -70,26 +70,67 @@ pub struct Witness {
     pub links: HashMap<(usize, usize), Vec<u16>>,
 }
 
-// A log read to its end or its stop: the records that were refused, and the refusal and the record that stopped it. Where
-// the header is refused, the witness means nothing.
+// What reading a record came to.
+#[derive(Clone, PartialEq, Eq, Debug)]
+pub enum Outcome {
+    // no bytes were left
+    Nothing,
+    Taken,
+    // a whole bundle too, by row 61 or 62
+    Refused(Refusal),
+    // a bundle that was not refused whole: for each bit set, in rising place, the row that refused this vote, or 0
+    Bundle(Vec<Refusal>),
+}
+
+impl Outcome {
+    // What was decided, one entry for each member, checkpoint or vote: the row that refused it, or 0. A bundle that was
+    // refused whole has one entry. A record that is unknown or cut ends the reading, and has none.
+    pub fn rows(&self) -> &[Refusal] {
+        match self {
+            Outcome::Nothing | Outcome::Refused(4 | 5) => &[],
+            Outcome::Taken => &[0],
+            Outcome::Refused(row) => std::slice::from_ref(row),
+            Outcome::Bundle(rows) => rows,
+        }
+    }
+}
+
+// A log read to its end or its stop: what each record came to, and the refusal and the record that stopped it. Where
+// the header is refused, no record is read and the witness means nothing.
 pub struct Reading {
     pub witness: Witness,
-    pub refused: Vec<(usize, Refusal)>,
+    pub outcomes: Vec<Outcome>,
     pub stopped: Option<(Refusal, usize)>,
 }
 
 impl Reading {
+    // The refused lines, in log order: the number of the record, and the row. The votes of a bundle have the bundle's.
+    pub fn refused(&self) -> Vec<(usize, Refusal)> {
+        let numbered = self.outcomes.iter().enumerate();
+        let rows = numbered.flat_map(|(number, outcome)| outcome.rows().iter().map(move |row| (number, *row)));
+        rows.filter(|(_, row)| *row != 0).collect()
+    }
+
     // What is said of a log that was stopped.
     pub fn stop_line(&self) -> Option<String> {
         self.stopped.map(|(number, record)| format!("stopped {number} record {record}\n"))
     }
 }
 
+// A link as a vote or a bundle tells it: each end's name and height.
+struct NamedLink {
+    source: Name,
+    target: Name,
+    source_height: u32,
+    target_height: u32,
+}
+
 // What a record says.
 enum Record {
     Member { id: u16, bond: u64 },
     Checkpoint { name: Name, parent: Name },
-    Vote { id: u16, source: Name, target: Name, source_height: u32, target_height: u32 },
+    Vote { id: u16, link: NamedLink },
+    Bundle { places: Vec<usize>, link: NamedLink },
 }
 
 fn integer(bytes: &[u8]) -> u64 {
@@ -102,12 +143,27 @@ fn name(bytes: &[u8]) -> Name {
     n
 }
 
+fn named_link(bytes: &[u8]) -> NamedLink {
+    NamedLink {
+        source: name(bytes),
+        target: name(&bytes[32..]),
+        source_height: integer(&bytes[64..68]) as u32,
+        target_height: integer(&bytes[68..72]) as u32,
+    }
+}
+
+// The places whose bits are set, rising: the bit of place p is bit p mod 8 of byte p div 8, the lowest bit being 0.
+fn set_places(bits: &[u8]) -> Vec<usize> {
+    (0..8 * bits.len()).filter(|p| bits[p / 8] >> (p % 8) & 1 == 1).collect()
+}
+
 // How many bytes a record of this kind has in all; none for an unknown kind.
 pub fn record_length(kind: u8) -> Option<usize> {
     match kind {
         1 => Some(11),
         2 => Some(65),
         3 => Some(75),
+        5 => Some(89),
         _ => None,
     }
 }
@@ -121,13 +177,8 @@ fn decode(rest: &[u8]) -> Result<(Record, usize), Refusal> {
     let record = match rest[0] {
         1 => Record::Member { id: integer(&rest[1..3]) as u16, bond: integer(&rest[3..11]) },
         2 => Record::Checkpoint { name: name(&rest[1..]), parent: name(&rest[33..]) },
-        _ => Record::Vote {
-            id: integer(&rest[1..3]) as u16,
-            source: name(&rest[3..]),
-            target: name(&rest[35..]),
-            source_height: integer(&rest[67..71]) as u32,
-            target_height: integer(&rest[71..75]) as u32,
-        },
+        3 => Record::Vote { id: integer(&rest[1..3]) as u16, link: named_link(&rest[3..]) },
+        _ => Record::Bundle { places: set_places(&rest[1..17]), link: named_link(&rest[17..]) },
     };
     Ok((record, length))
 }
@@ -148,27 +199,22 @@ pub fn begin(log: &[u8]) -> Result<Witness, Refusal> {
 
 // A log from its header to its end or to the first record that is unknown or cut.
 pub fn read_log(log: &[u8]) -> Reading {
-    let mut refused = Vec::new();
+    let mut outcomes = Vec::new();
     let mut witness = match begin(log) {
         Ok(w) => w,
-        Err(r) => return Reading { witness: Witness::with_root([0; 32]), refused, stopped: Some((r, 0)) },
+        Err(r) => return Reading { witness: Witness::with_root([0; 32]), outcomes, stopped: Some((r, 0)) },
     };
     let mut at = HEADER;
-    let mut number = 0;
     while at < log.len() {
-        match witness.read(&log[at..]) {
-            (Ok(()), length) => at += length,
-            (Err(r @ (4 | 5)), _) => {
-                return Reading { witness, refused, stopped: Some((r, number)) };
-            }
-            (Err(r), length) => {
-                refused.push((number, r));
-                at += length;
-            }
+        let (outcome, length) = witness.read(&log[at..]);
+        outcomes.push(outcome);
+        if let Some(Outcome::Refused(row @ (4 | 5))) = outcomes.last() {
+            let stopped = Some((*row, outcomes.len() - 1));
+            return Reading { witness, outcomes, stopped };
         }
-        number += 1;
+        at += length;
     }
-    Reading { witness, refused, stopped: None }
+    Reading { witness, outcomes, stopped: None }
 }
 
 impl Witness {
@@ -184,20 +230,28 @@ impl Witness {
         }
     }
 
-    // The record at the start of what is left of a log: taken or refused, and how many bytes it has.
-    pub fn read(&mut self, rest: &[u8]) -> (Result<(), Refusal>, usize) {
-        let (record, length) = match decode(rest) {
-            Ok(r) => r,
-            Err(r) => return (Err(r), 0),
-        };
-        let outcome = match record {
+    // The record at the start of what is left of a log: what it comes to, and how many bytes it has.
+    pub fn read(&mut self, rest: &[u8]) -> (Outcome, usize) {
+        if rest.is_empty() {
+            return (Outcome::Nothing, 0);
+        }
+        match decode(rest) {
+            Ok((record, length)) => (self.add(record), length),
+            Err(row) => (Outcome::Refused(row), 0),
+        }
+    }
+
+    fn add(&mut self, record: Record) -> Outcome {
+        let answer = match record {
             Record::Member { id, bond } => self.add_member(id, bond),
             Record::Checkpoint { name, parent } => self.add_checkpoint(name, parent),
-            Record::Vote { id, source, target, source_height, target_height } => {
-                self.add_vote(id, source, target, source_height, target_height)
-            }
+            Record::Vote { id, link } => self.add_vote(id, &link),
+            Record::Bundle { places, link } => match self.add_bundle(&places, &link) {
+                Ok(rows) => return Outcome::Bundle(rows),
+                Err(row) => Err(row),
+            },
         };
-        (outcome, length)
+        answer.map_or_else(Outcome::Refused, |()| Outcome::Taken)
     }
 
     // Rows 10 to 13.
@@ -235,19 +289,47 @@ impl Witness {
     }
 
     // Rows 30 to 36.
-    fn add_vote(&mut self, id: u16, from: Name, to: Name, from_height: u32, to_height: u32) -> Result<(), Refusal> {
+    fn add_vote(&mut self, id: u16, link: &NamedLink) -> Result<(), Refusal> {
         if !self.bonds.contains_key(&id) {
             return Err(30);
         }
-        let source = *self.places.get(&from).ok_or(31)?;
-        let target = *self.places.get(&to).ok_or(32)?;
-        if self.checkpoints[source].height != from_height || self.checkpoints[target].height != to_height {
+        let (source, target) = self.find_link(link)?;
+        self.cast_vote(Vote { member: id, source, target })
+    }
+
+    // Rows 61 and 62 on the whole bundle, else its single votes in rising member place: of each the row that refused
+    // it, or 0. Rows 31 to 34 look at nothing that a vote changes, so they are tried once for all votes.
+    fn add_bundle(&mut self, places: &[usize], link: &NamedLink) -> Result<Vec<Refusal>, Refusal> {
+        if places.iter().any(|p| *p >= self.members.len()) {
+            return Err(61);
+        }
+        if places.is_empty() {
+            return Err(62);
+        }
+        let found = self.find_link(link);
+        let mut single = |place: usize| {
+            let (source, target) = found?;
+            self.cast_vote(Vote { member: self.members[place], source, target })
+        };
+        Ok(places.iter().map(|p| single(*p).err().unwrap_or(0)).collect())
+    }
+
+    // Rows 31 to 34; the places of a link's two ends.
+    fn find_link(&self, link: &NamedLink) -> Result<(usize, usize), Refusal> {
+        let source = *self.places.get(&link.source).ok_or(31)?;
+        let target = *self.places.get(&link.target).ok_or(32)?;
+        let heights = (self.checkpoints[source].height, self.checkpoints[target].height);
+        if heights != (link.source_height, link.target_height) {
             return Err(33);
         }
         if !self.is_ancestor(source, target) {
             return Err(34);
         }
-        let vote = Vote { member: id, source, target };
+        Ok((source, target))
+    }
+
+    // Rows 35 and 36.
+    fn cast_vote(&mut self, vote: Vote) -> Result<(), Refusal> {
         if self.cast.contains(&vote) {
             return Err(35);
         }
@@ -256,7 +338,7 @@ impl Witness {
         }
         self.cast.insert(vote);
         self.votes.push(vote);
-        self.links.entry((source, target)).or_default().push(id);
+        self.links.entry((vote.source, vote.target)).or_default().push(vote.member);
         Ok(())
     }
 
@@ -443,7 +525,7 @@ pub fn report(log: &[u8]) -> String {
 
 pub fn report_of(reading: &Reading) -> String {
     let mut text = String::new();
-    for (record, number) in &reading.refused {
+    for (record, number) in reading.refused() {
         text += &format!("refused {record} number {number}\n");
     }
     text += &reading.stop_line().unwrap_or_else(|| standing(&reading.witness));

@@ -1,12 +1,14 @@
 // The report by the library: the log is fed in pieces, cut anywhere, into buffers with much room or little, and the text
 // is that of the reference's report.
-use crate::compare::{same, Same, UNWRITTEN};
+use crate::compare::{is_unwritten, same, Same, UNWRITTEN};
 use crate::library::{Piece, Witness, ENDED, FULL, OUT_OF_NUMBERS, WANTS};
 use crate::random::Random;
-use crate::reference::{self, Reading, HEADER};
+use crate::reference::{self, Reading, HEADER, MAX_MEMBERS};
 
-// No line of a record has more bytes, and no summary.
+// No line has more bytes, and no summary. A record may have a line for each vote of a bundle, so a call reads on only
+// while the buffer has room for as many lines behind what it wrote.
 const LINE: usize = 64;
+pub const ROOM: usize = MAX_MEMBERS * LINE;
 const SUMMARY: usize = 65536;
 
 pub fn compare(log: &[u8], before: &Witness, reading: &Reading, random: &mut Random) -> Same {
@@ -16,7 +18,7 @@ pub fn compare(log: &[u8], before: &Witness, reading: &Reading, random: &mut Ran
 
 // What a call wrote; the rest of the buffer is as it was.
 fn written(buffer: &[u8], piece: &Piece) -> Result<Vec<u8>, String> {
-    same("the rest of the buffer", buffer[piece.written..].iter().all(|b| *b == UNWRITTEN), true)?;
+    same("the rest of the buffer", is_unwritten(&buffer[piece.written..]), true)?;
     Ok(buffer[..piece.written].to_vec())
 }
 
@@ -39,26 +41,55 @@ fn open(log: &[u8], last: bool, before: &Witness) -> Result<(Box<Piece>, Vec<u8>
     Ok((piece, text))
 }
 
-// The bytes from `passed` to `end`, behind some that were passed; how many were passed now is added.
-fn feed(log: &[u8], passed: &mut usize, end: usize, last: &Piece, random: &mut Random) -> Result<(Box<Piece>, Vec<u8>), String> {
+// How long a buffer is lent: long enough for one record's lines, or for a few lines more.
+fn some_room(log: &[u8], random: &mut Random) -> usize {
+    let little = [ROOM, ROOM + 1, ROOM + LINE, ROOM + random.below(3 * LINE)];
+    if log.len() > 20_000 { SUMMARY } else { random.pick(&little) }
+}
+
+// The bytes from `passed` to `end`, behind some that were passed; how many were passed now is added. A call that says
+// that the buffer is full has no room left for one record's lines.
+fn feed(
+    log: &[u8],
+    passed: &mut usize,
+    end: usize,
+    last: &Piece,
+    random: &mut Random,
+) -> Result<(Box<Piece>, Vec<u8>), String> {
     let behind = random.below(*passed + 1);
-    let room = if log.len() > 20_000 { SUMMARY } else { random.within(LINE, 3 * LINE) };
+    let rest = &log[*passed - behind..end];
+    if random.one_in(4) {
+        no_room(rest, behind, last, random)?;
+    }
+    let room = some_room(log, random);
     let mut buffer = vec![UNWRITTEN; room];
-    let piece = last.witness.feed(last.records, &log[*passed - behind..end], behind, &mut buffer);
+    let piece = last.witness.feed(last.records, rest, behind, &mut buffer);
+    same("full with room left", piece.pause == FULL && room - piece.written >= ROOM, false)?;
     *passed += piece.next - behind;
     let text = written(&buffer, &piece)?;
     Ok((piece, text))
 }
 
+// A buffer without room for one record's lines is full before anything is read, whatever is there.
+fn no_room(rest: &[u8], at: usize, last: &Piece, random: &mut Random) -> Same {
+    let any = random.below(ROOM);
+    let room = random.pick(&[0, LINE, ROOM - LINE, ROOM - 1, any]);
+    let mut buffer = vec![UNWRITTEN; room];
+    let piece = last.witness.feed(last.records, rest, at, &mut buffer);
+    let told = (piece.pause, piece.next, piece.records, piece.written, piece.witness == last.witness);
+    same("no room to read", told, (FULL, at, last.records, 0, true))?;
+    same("no room to read, no text", is_unwritten(&buffer), true)
+}
+
 // Where no record number is left nothing is read, whatever is there; a buffer without room is told first.
 fn no_number_left(rest: &[u8], last: &Piece) -> Same {
-    let mut buffer = [UNWRITTEN; LINE];
-    for (room, why) in [(LINE, OUT_OF_NUMBERS), (LINE - 1, FULL)] {
+    let mut buffer = [UNWRITTEN; ROOM];
+    for (room, why) in [(ROOM, OUT_OF_NUMBERS), (ROOM - 1, FULL)] {
         let piece = last.witness.feed(u64::MAX, rest, 0, &mut buffer[..room]);
         let told = (piece.pause, piece.next, piece.records, piece.written, piece.witness == last.witness);
         same("no number left", told, (why, 0, u64::MAX, 0, true))?;
     }
-    same("no number, no text", buffer, [UNWRITTEN; LINE])
+    same("no number, no text", is_unwritten(&buffer), true)
 }
 
 // The log's end, into a buffer with much room, one that is just long enough and one that is a byte too short.
@@ -71,7 +102,7 @@ fn close(log: &[u8], passed: usize, last: &Piece) -> Result<Vec<u8>, String> {
     let mut short = vec![UNWRITTEN; text.len()];
     let small = last.witness.close(last.records, left, &mut short[1..]);
     same("no room at the end", (small.pause, small.written), (FULL, 0))?;
-    same("no room, no text", short.iter().all(|b| *b == UNWRITTEN), true)?;
+    same("no room, no text", is_unwritten(&short), true)?;
     let exact = last.witness.close(last.records, left, &mut short);
     same("just enough room", (exact.pause, short == text), (ENDED, true))?;
     Ok(text)

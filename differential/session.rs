@@ -1,6 +1,6 @@
-// The cases that document 01 works out, and three papers worked out by hand, against the reference: its own check, made
-// before anything is compared with it.
-use crate::reference::{self, is_supermajority};
+// The cases that document 01 works out, and a report of bundles and three papers worked out by hand, against the
+// reference: its own check, made before anything is compared with it.
+use crate::reference::{self, is_supermajority, Outcome};
 
 const REPORT: &str = "refused 15 number 35
 checkpoint 0 height 0 final
@@ -15,6 +15,22 @@ total 3 named 1 conflict yes
 ";
 
 const LIST: &[u8] = b"\x46\x46\x50\x00\x01\x00\x01\x00\x02\x00\x01\x00\x04";
+
+// The report of `bundled`.
+const BUNDLED_REPORT: &str = "refused 7 number 35
+refused 9 number 61
+refused 10 number 62
+refused 11 number 33
+refused 11 number 33
+checkpoint 0 height 0 final
+checkpoint 1 height 1 final
+checkpoint 2 height 1 justified
+checkpoint 3 height 2 justified
+member 4 bond 2 broken 0 3
+member 6 bond 3 broken 2 4
+member 9 bond 1 clear
+total 6 named 5 conflict no
+";
 
 // The rows of the session's paper.
 const SESSION_ROWS: [&str; 5] = [
@@ -53,13 +69,25 @@ fn checkpoint(log: &mut Vec<u8>, name: u8, parent: u8) {
     log.extend([parent; 32]);
 }
 
-fn vote(log: &mut Vec<u8>, id: u16, source: (u8, u32), target: (u8, u32)) {
-    log.push(3);
-    log.extend(id.to_be_bytes());
+fn link(log: &mut Vec<u8>, source: (u8, u32), target: (u8, u32)) {
     log.extend([source.0; 32]);
     log.extend([target.0; 32]);
     log.extend(source.1.to_be_bytes());
     log.extend(target.1.to_be_bytes());
+}
+
+fn vote(log: &mut Vec<u8>, id: u16, source: (u8, u32), target: (u8, u32)) {
+    log.push(3);
+    log.extend(id.to_be_bytes());
+    link(log, source, target);
+}
+
+// A bundle whose first byte of member bits is given; no bit of the others is set.
+fn bundle(log: &mut Vec<u8>, bits: u8, source: (u8, u32), target: (u8, u32)) {
+    log.push(5);
+    log.push(bits);
+    log.extend([0; 15]);
+    link(log, source, target);
 }
 
 // The log of the session that document 01 gives whole.
@@ -77,6 +105,31 @@ pub fn worked() -> Vec<u8> {
     }
     for (id, from, to) in [(2, root, b), (3, root, b), (2, b, d), (3, b, d), (3, b, d)] {
         vote(&mut log, id, from, to);
+    }
+    log
+}
+
+// Three members, accepted in the order 9, 4, 6, and bundles: one of whose votes the second is held, one with a bit past
+// the members, one without a bit, one with a wrong height, and two that are taken whole.
+fn bundled() -> Vec<u8> {
+    let (root, a, b, c) = ((b'r', 0), (b'A', 1), (b'B', 1), (b'C', 2));
+    let mut log = header(root.0);
+    for (id, bond) in [(9, 1), (4, 2), (6, 3)] {
+        member(&mut log, id, bond);
+    }
+    for (child, parent) in [(a, root), (b, root), (c, a)] {
+        checkpoint(&mut log, child.0, parent.0);
+    }
+    vote(&mut log, 4, root, a);
+    for (bits, from, to) in [
+        (0b0111, root, a),
+        (0b0110, root, b),
+        (0b1010, (b'?', 0), a),
+        (0b0000, (b'?', 0), a),
+        (0b0101, (b'A', 2), c),
+        (0b0110, a, c),
+    ] {
+        bundle(&mut log, bits, from, to);
     }
     log
 }
@@ -140,9 +193,24 @@ fn check_papers() {
     }
 }
 
-// Every case that the document marks, the header alone as request K1 words it; and the papers.
+fn check_bundles() {
+    let reading = reference::read_log(&bundled());
+    assert_eq!(reference::report_of(&reading), BUNDLED_REPORT);
+    let expected = [
+        Outcome::Bundle(vec![0, 35, 0]),
+        Outcome::Bundle(vec![0, 0]),
+        Outcome::Refused(61),
+        Outcome::Refused(62),
+        Outcome::Bundle(vec![33, 33]),
+        Outcome::Bundle(vec![0, 0]),
+    ];
+    assert_eq!(reading.outcomes[7..], expected);
+}
+
+// Every case that the document marks, the header alone as request K1 words it; the papers and the bundles.
 pub fn check() {
     check_papers();
+    check_bundles();
     let log = worked();
     assert_eq!(reference::report(&log), REPORT);
     let reading = reference::read_log(&log);

@@ -1,15 +1,18 @@
 // What occurred, counted: a generator that misses a row of the table compares nothing there.
 use crate::paper::{self, Link};
-use crate::reference::{is_supermajority, Reading, Refusal, Status, Witness};
+use crate::reference::{is_supermajority, Outcome, Reading, Refusal, Status, Witness, MAX_MEMBERS};
 use std::collections::BTreeMap;
 
 #[derive(Default)]
 pub struct Tally(BTreeMap<String, u64>);
 
-// Every row of the table, every answer, and what papers have to show.
-const ROWS: [Refusal; 30] = [
+// Every row of the table and of the requests done, the rows that a bundle's votes may meet, every answer, what becomes
+// of bundles, and what papers have to show.
+const ROWS: [Refusal; 32] = [
     1, 2, 3, 4, 5, 10, 11, 12, 13, 20, 21, 22, 30, 31, 32, 33, 34, 35, 36, 40, 41, 50, 51, 52, 53, 54, 55, 56, 57, 60,
+    61, 62,
 ];
+const BUNDLED_ROWS: [Refusal; 6] = [31, 32, 33, 34, 35, 36];
 const ANSWERS: [&str; 9] = [
     "standing plain",
     "standing justified",
@@ -21,6 +24,13 @@ const ANSWERS: [&str; 9] = [
     "state sound",
     "state not sound",
 ];
+const BUNDLES: [&str; 5] = [
+    "bundle with every vote taken",
+    "bundle with every vote refused",
+    "bundle with some votes taken and some refused",
+    "bundle that meets row 36 after a vote of its own was taken",
+    "bundle of 128 votes",
+];
 const PAPERS: [&str; 6] = [
     "paper of several pages",
     "paper with a full last page",
@@ -30,13 +40,21 @@ const PAPERS: [&str; 6] = [
     "paper row that passes over more bond from a plain source",
 ];
 
+fn refused_name(row: Refusal) -> String {
+    format!("refused {row:2}")
+}
+
+fn bundled_name(row: Refusal) -> String {
+    format!("refused {row:2} in a bundle")
+}
+
 impl Tally {
     fn add(&mut self, what: &str) {
         *self.0.entry(what.to_string()).or_default() += 1;
     }
 
     pub fn refused(&mut self, row: Refusal) {
-        self.add(&format!("refused {row:2}"));
+        self.add(&refused_name(row));
     }
 
     pub fn answer(&mut self, answer: &Result<u64, Refusal>) {
@@ -62,8 +80,13 @@ impl Tally {
 
     // The refusals and the answers of one log, by the reference.
     pub fn reading(&mut self, reading: &Reading) {
-        for (_, row) in &reading.refused {
-            self.refused(*row);
+        for (_, row) in reading.refused() {
+            self.refused(row);
+        }
+        for outcome in &reading.outcomes {
+            if let Outcome::Bundle(rows) = outcome {
+                self.bundle(rows);
+            }
         }
         if let Some((row, _)) = reading.stopped {
             return self.refused(row);
@@ -77,6 +100,24 @@ impl Tally {
             });
         }
         self.add(if reading.witness.conflict() { ANSWERS[3] } else { ANSWERS[4] });
+    }
+
+    // A bundle that was not refused whole, by the row of each of its votes.
+    fn bundle(&mut self, rows: &[Refusal]) {
+        let refused: Vec<Refusal> = rows.iter().copied().filter(|row| *row != 0).collect();
+        refused.iter().for_each(|row| self.add(&bundled_name(*row)));
+        self.add(match rows.len() - refused.len() {
+            0 => BUNDLES[1],
+            taken if taken == rows.len() => BUNDLES[0],
+            _ => BUNDLES[2],
+        });
+        let taken = rows.iter().position(|row| *row == 0).unwrap_or(rows.len());
+        if rows[taken..].contains(&36) {
+            self.add(BUNDLES[3]);
+        }
+        if rows.len() == MAX_MEMBERS {
+            self.add(BUNDLES[4]);
+        }
     }
 
     // What the paper of a witness shows, by the reference. The root has zeros in every paper.
@@ -113,9 +154,10 @@ impl Tally {
 
     // What never occurred.
     pub fn missing(&self) -> Vec<String> {
-        let rows = ROWS.iter().map(|row| format!("refused {row:2}"));
-        let answers = ANSWERS.iter().chain(&PAPERS).map(|a| a.to_string());
-        rows.chain(answers).filter(|what| !self.0.contains_key(what)).collect()
+        let rows = ROWS.iter().map(|row| refused_name(*row));
+        let bundled = BUNDLED_ROWS.iter().map(|row| bundled_name(*row));
+        let others = ANSWERS.iter().chain(&BUNDLES).chain(&PAPERS).map(|a| a.to_string());
+        rows.chain(bundled).chain(others).filter(|what| !self.0.contains_key(what)).collect()
     }
 
     pub fn print(&self) {

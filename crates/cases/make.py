@@ -10,7 +10,7 @@
 #
 # A log's name says what is in it. Of "paper" logs the board paper is printed, of all others the report. "row" logs show
 # a row of the table of refusals, "first" logs a record to which several rows apply, "cut" logs a last record that is
-# cut by the end.
+# cut by the end, "bundle" logs what becomes of the votes of bundles.
 import shutil
 import subprocess
 import sys
@@ -47,9 +47,20 @@ def checkpoint(spot, parent):
     return b"\x02" + spot.name + parent.name
 
 
+def link(source, target):
+    return source.name + target.name + integer(source.height, 4) + integer(target.height, 4)
+
+
 def vote(number, source, target):
-    heights = integer(source.height, 4) + integer(target.height, 4)
-    return b"\x03" + integer(number, 2) + source.name + target.name + heights
+    return b"\x03" + integer(number, 2) + link(source, target)
+
+
+# A bundle of the members at these places. The bit of place p is bit p mod 8 of byte p div 8, the lowest bit being 0.
+def bundle(places, source, target):
+    bits = bytearray(16)
+    for place in places:
+        bits[place // 8] |= 1 << place % 8
+    return b"\x05" + bits + link(source, target)
 
 
 # ---- What most logs are put together from.
@@ -101,6 +112,7 @@ def log(*records):
 
 THREE = members(1, 1, 1)
 SMALL = THREE + TREE
+FULL = members(*[1] * MAX_MEMBERS)
 
 
 # A chain of checkpoints from the root down, the root among them.
@@ -152,6 +164,7 @@ def stop_logs():
     return {
         "row-04-kind-0": unknown_kind(0),
         "row-04-kind-4": unknown_kind(4),
+        "row-04-kind-6": unknown_kind(6),
         "row-04-kind-255": unknown_kind(255),
         "row-04-kind-of-the-digit-1": unknown_kind(ord("1")),
         "row-04-first-record": log(b"\x09"),
@@ -162,6 +175,7 @@ def stop_logs():
         "row-05-would-be-refused-whole": log(member(1), member(1, 0)[:10]),
         "row-05-a-member-in-length": log(SMALL, vote(1, ROOT, A)[:11]),
         "row-05-a-checkpoint-in-length": log(SMALL, vote(1, ROOT, A)[:65]),
+        "row-05-a-vote-in-length": log(SMALL, bundle([0], ROOT, A)[:75]),
     }
 
 
@@ -174,15 +188,21 @@ def cut_lengths(record):
     return [1, len(record) // 2, len(record) - 1]
 
 
-# Each kind cut at three lengths. Every length of a vote, right after the header.
+# Each kind cut at three lengths. Every length of a vote and of a bundle, right after the header.
 def cut_logs():
-    records = {"member": member(4), "checkpoint": checkpoint(X, ROOT), "vote": vote(2, ROOT, A)}
+    records = {
+        "member": member(4),
+        "checkpoint": checkpoint(X, ROOT),
+        "vote": vote(2, ROOT, A),
+        "bundle": bundle([1, 2], ROOT, A),
+    }
     logs = {}
     for kind, record in records.items():
         for length in cut_lengths(record):
             logs[f"cut-{kind}-{length:02}"] = cut(record, length)
-    for length in range(1, 75):
-        logs[f"cuts/vote-{length:02}"] = log(vote(1, ROOT, A)[:length])
+    for kind, record in {"vote": vote(1, ROOT, A), "bundle": bundle([0], ROOT, A)}.items():
+        for length in range(1, len(record)):
+            logs[f"cuts/{kind}-{length:02}"] = log(record[:length])
     return logs
 
 
@@ -196,6 +216,9 @@ def row_10_logs():
         "row-10-every-member": log(checkpoint(A, ROOT), THREE),
         "row-10-not-after-refused-records": log(
             member(1), checkpoint(ROOT, ROOT), checkpoint(A, X), vote(1, ROOT, ROOT), member(2)
+        ),
+        "row-10-not-after-refused-bundles": log(
+            member(1), bundle([0], ROOT, ROOT), bundle([1], ROOT, ROOT), bundle([], ROOT, ROOT), member(2)
         ),
     }
 
@@ -221,16 +244,15 @@ def row_12_logs():
 
 # 128 members, and one more.
 def row_13_logs():
-    full = members(*[1] * MAX_MEMBERS)
     return {
-        "limit-128-members": log(full),
-        "row-13-a-129th-member": log(full, member(129)),
-        "first-11-and-12-before-13": log(full, member(129, 0), member(5, 0), member(5), member(129)),
+        "limit-128-members": log(FULL),
+        "row-13-a-129th-member": log(FULL, member(129)),
+        "first-11-and-12-before-13": log(FULL, member(129, 0), member(5, 0), member(5), member(129)),
     }
 
 
 def member_order_logs():
-    full = members(*[1] * MAX_MEMBERS) + checkpoint(A, ROOT)
+    full = FULL + checkpoint(A, ROOT)
     return {
         "first-10-before-11": log(member(1), checkpoint(A, ROOT), member(2, 0)),
         "first-10-before-12": log(member(1), checkpoint(A, ROOT), member(1)),
@@ -378,7 +400,7 @@ def row_36_logs():
         vote(129, ROOT, spots[33]),
         member(129),
     ]
-    records = [members(*[1] * MAX_MEMBERS), chain_records(spots), *steps, *rest, last, *refused]
+    records = [FULL, chain_records(spots), *steps, *rest, last, *refused]
     return {"row-36-a-4097th-vote-after-30-to-35": log(*records)}
 
 
@@ -393,6 +415,182 @@ def vote_order_logs():
         "first-32-before-33": log(SMALL, vote(1, wrong, X)),
         "first-33-before-34": log(SMALL, vote(1, wrong, ROOT), vote(1, A, at_height(B, 2))),
         "first-33-before-35": log(SMALL, vote(1, ROOT, A), vote(1, wrong, A)),
+    }
+
+
+# ---- Bundles: rows 61 and 62, then those of each vote.
+
+
+# Members 1 to 128 have the places 0 to 127, and members 1, 2, 3 of SMALL the places 0, 1, 2.
+EVERYONE = range(MAX_MEMBERS)
+ALL_THREE = [0, 1, 2]
+
+
+def row_61_logs():
+    return {
+        "row-61-the-first-bit-past-the-members": log(SMALL, bundle([3], ROOT, A)),
+        "row-61-the-last-bit": log(SMALL, bundle([127], ROOT, A)),
+        "row-61-beside-bits-of-members": log(SMALL, bundle([0, 1, 2, 3], ROOT, A), bundle([0, 127], ROOT, A)),
+        "row-61-every-bit-of-127-members": log(members(*[1] * 127), TREE, bundle(EVERYONE, ROOT, A)),
+        "row-61-no-members": log(TREE, bundle([0], ROOT, A), bundle(EVERYONE, ROOT, A)),
+        "row-61-before-the-members-came": log(bundle([0], ROOT, A), SMALL, bundle([0], ROOT, A)),
+        "row-61-member-was-refused": log(member(1), member(2, 0), TREE, bundle([1], ROOT, A)),
+        "row-61-a-place-is-no-id": log(member(7), member(8), TREE, bundle([7], ROOT, A)),
+    }
+
+
+def row_62_logs():
+    return {
+        "row-62-no-bit": log(SMALL, bundle([], ROOT, A)),
+        "row-62-no-members": log(TREE, bundle([], ROOT, A)),
+        "row-62-reading-goes-on": log(SMALL, bundle([], ROOT, A), vote(1, ROOT, A), bundle([0], ROOT, A)),
+    }
+
+
+# Two bundles of one member for siblings, so that its line in the report is `broken`.
+def twice(places):
+    return bundle(places, ROOT, A) + bundle(places, ROOT, B)
+
+
+# Places go by the order of acceptance. Here it is 9, 7, 8.
+NINE_SEVEN_EIGHT = member(9, 5) + member(7, 3) + member(8, 2) + TREE
+
+
+def bundle_bit_logs():
+    return {
+        "bundle-bit-0-alone": log(SMALL, twice([0])),
+        "bundle-bit-7-alone": log(members(*[1] * 9), TREE, twice([7])),
+        "bundle-bit-8-alone": log(members(*[1] * 9), TREE, twice([8])),
+        "bundle-bit-127-alone": log(FULL, TREE, twice([127])),
+        "bundle-of-all-128-members": log(FULL, TREE, bundle(EVERYONE, ROOT, A)),
+        "bundle-bits-where-ids-fall": log(NINE_SEVEN_EIGHT, twice([0]), bundle([1], ROOT, A)),
+        "bundle-places-skip-refused-members": log(member(5), member(5), member(6, 0), member(4), TREE, twice([1])),
+    }
+
+
+# Rows 31 to 34 meet every vote of a bundle, each with a line.
+def bundle_link_logs():
+    both = [0, 2]
+    return {
+        "bundle-row-31-source-not-held": log(SMALL, bundle(ALL_THREE, X, C)),
+        "bundle-row-31-source-comes-later": log(THREE, bundle(both, A, C), TREE, bundle(both, A, C)),
+        "bundle-row-32-target-not-held": log(SMALL, bundle(ALL_THREE, ROOT, X)),
+        "bundle-row-33-source-height": log(SMALL, bundle(both, at_height(ROOT, 1), A)),
+        "bundle-row-33-target-height": log(SMALL, bundle(both, ROOT, at_height(A, 2))),
+        "bundle-row-33-low-bytes-alike": log(
+            SMALL, bundle(both, at_height(ROOT, 2**24), A), bundle(both, ROOT, at_height(A, 2**8 + 1))
+        ),
+        "bundle-row-34-root-to-root": log(SMALL, bundle(both, ROOT, ROOT)),
+        "bundle-row-34-child-to-parent": log(SMALL, bundle(both, A, ROOT)),
+        "bundle-row-34-across-branches": log(SMALL, bundle(both, A, D)),
+    }
+
+
+def bundle_held_logs():
+    return {
+        "bundle-row-35-repeated": log(SMALL, bundle(ALL_THREE, ROOT, A), bundle(ALL_THREE, ROOT, A)),
+        "bundle-row-35-one-vote-held": log(SMALL, vote(2, ROOT, A), bundle(ALL_THREE, ROOT, A)),
+        "bundle-row-35-partly-held-by-another": log(SMALL, bundle([0, 1], ROOT, A), bundle([1, 2], ROOT, A)),
+        "bundle-row-35-of-a-single-vote-after-it": log(SMALL, bundle([0, 1], ROOT, A), votes([2, 3], ROOT, A)),
+        "bundle-row-35-not-of-another-link": log(SMALL, bundle(ALL_THREE, ROOT, A), bundle(ALL_THREE, A, C)),
+    }
+
+
+# 31 bundles of 128 votes and one of 64; then one that finds room for its first 64 votes, and meets row 36 after them.
+# Where it comes again the first 64 are held. Further votes meet the rows before 36 first.
+def bundle_36_logs():
+    spots = chain(35)
+    filling = [bundle(EVERYONE, spots[i], spots[i + 1]) for i in range(31)]
+    half = bundle(range(64, MAX_MEMBERS), spots[31], spots[32])
+    crossing = bundle(EVERYONE, spots[32], spots[33])
+    after = [
+        bundle([63, 64, 65], spots[32], spots[33]),
+        bundle([0, 127], spots[31], spots[32]),
+        bundle([0, 1], spots[0], spots[1]),
+        bundle([0, 1], spots[1], spots[0]),
+        bundle([0, 1], X, spots[0]),
+        vote(128, spots[32], spots[33]),
+        vote(1, spots[32], spots[33]),
+    ]
+    records = [FULL, chain_records(spots), *filling, half, crossing, crossing, *after]
+    return {"bundle-row-36-inside-after-64-votes-taken": log(*records)}
+
+
+# 127 members fill the votes. The last of 33 bundles finds room for 32 of its votes.
+def bundle_full_order_logs():
+    spots = chain(34)
+    few = range(127)
+    filling = [bundle(few, spots[i], spots[i + 1]) for i in range(33)]
+    late = [bundle([0, 127], ROOT, spots[33]), bundle([], ROOT, spots[33]), bundle([0], ROOT, spots[33])]
+    return {
+        "first-61-and-62-before-36": log(members(*[1] * 127), chain_records(spots), *filling, *late),
+    }
+
+
+def bundle_order_logs():
+    wrong = at_height(ROOT, 7)
+    return {
+        "first-05-before-61": log(SMALL, bundle([3], ROOT, A)[:88]),
+        "first-05-before-62": log(SMALL, bundle([], ROOT, A)[:88]),
+        "first-61-before-31": log(SMALL, bundle([0, 3], X, A)),
+        "first-61-before-32": log(SMALL, bundle([0, 3], ROOT, X)),
+        "first-61-before-33-and-34": log(SMALL, bundle([0, 3], wrong, A), bundle([0, 3], ROOT, ROOT)),
+        "first-61-before-35": log(SMALL, bundle([0], ROOT, A), bundle([0, 3], ROOT, A)),
+        "first-62-before-31": log(SMALL, bundle([], X, A)),
+        "first-62-before-32": log(SMALL, bundle([], ROOT, X)),
+        "first-62-before-33-and-34": log(SMALL, bundle([], wrong, A), bundle([], ROOT, ROOT)),
+    }
+
+
+def bundle_vote_order_logs():
+    wrong = at_height(ROOT, 7)
+    both = [0, 2]
+    return {
+        "first-31-before-32-in-a-bundle": log(SMALL, bundle(both, X, Y)),
+        "first-31-before-33-in-a-bundle": log(SMALL, bundle(both, X, at_height(A, 7))),
+        "first-32-before-33-in-a-bundle": log(SMALL, bundle(both, wrong, X)),
+        "first-33-before-34-in-a-bundle": log(SMALL, bundle(both, wrong, ROOT), bundle(both, A, at_height(B, 2))),
+        "first-33-before-35-in-a-bundle": log(SMALL, bundle(both, ROOT, A), bundle(both, wrong, A)),
+    }
+
+
+# A bundle is one record in the numbering, whatever becomes of its votes.
+def bundle_number_logs():
+    return {
+        "bundle-taken-is-one-record": log(SMALL, bundle(ALL_THREE, ROOT, A), member(4)),
+        "bundle-refused-is-one-record": log(SMALL, bundle(ALL_THREE, X, A), bundle([5], X, A), vote(9, ROOT, A)),
+        "bundle-as-the-last-record": log(SMALL, vote(9, ROOT, A), bundle([0, 1], ROOT, A)),
+        "bundle-before-an-unknown-kind": log(SMALL, bundle([0, 1], X, A), b"\x09"),
+    }
+
+
+# Votes of bundles justify and finalize, and stand behind a link with single votes.
+def bundle_standing_logs():
+    both = [0, 1]
+    return {
+        "bundle-of-one-of-three": log(SMALL, bundle([2], ROOT, A), bundle([2], ROOT, A)),
+        "bundle-justifies": log(SMALL, bundle(both, ROOT, A)),
+        "bundle-justifies-with-a-single-vote": log(SMALL, vote(3, ROOT, A), bundle([0], ROOT, A)),
+        "bundle-justifies-by-bonds": log(members(1, 1, 10), TREE, bundle(both, ROOT, B), bundle([2], ROOT, A)),
+        "bundle-finalizes": log(SMALL, bundle(both, ROOT, A), bundle(both, A, C)),
+        "bundle-late-justification": log(SMALL, bundle(both, A, C), bundle(both, ROOT, A)),
+        "bundle-not-final-by-a-grandchild": log(SMALL, bundle(both, ROOT, A), bundle(both, A, E)),
+    }
+
+
+# A bundle's votes are numbered in rising place, those refused left out. Members break a rule by two bundles, and by a
+# bundle and a single vote.
+def bundle_charge_logs():
+    return {
+        "bundle-double-vote": log(SMALL, bundle([0, 1], ROOT, A), bundle([1, 2], ROOT, B)),
+        "bundle-double-vote-with-a-single-vote": log(SMALL, bundle(ALL_THREE, ROOT, A), vote(2, ROOT, B)),
+        "bundle-surround-vote-1": log(SMALL, bundle(ALL_THREE, A, C), bundle([0, 2], ROOT, F)),
+        "bundle-surround-vote-2": log(SMALL, bundle(ALL_THREE, ROOT, F), bundle([0, 2], A, C)),
+        "bundle-vote-numbers-where-ids-fall": log(NINE_SEVEN_EIGHT, twice(ALL_THREE)),
+        "bundle-vote-numbers-skip-refused-votes": log(SMALL, vote(2, ROOT, A), twice(ALL_THREE)),
+        "bundle-conflict": log(
+            SMALL, bundle([0, 1], ROOT, A), bundle([0, 1], A, C), bundle([1, 2], ROOT, D), bundle([1, 2], D, F)
+        ),
     }
 
 
@@ -483,18 +681,26 @@ def conflict_logs():
     }
 
 
-# The session of document 01.
+# The session of document 01, and the same with its votes in bundles.
 def session_logs():
+    before = [THREE, *[checkpoint(spot, PARENTS[spot]) for spot in (A, B, C, D)]]
     return {
         "session": log(
-            THREE,
-            *[checkpoint(spot, PARENTS[spot]) for spot in (A, B, C, D)],
+            *before,
             votes([1, 2], ROOT, A),
             votes([1, 2], A, C),
             votes([2, 3], ROOT, B),
             votes([2, 3], B, D),
             vote(3, B, D),
-        )
+        ),
+        "session-in-bundles": log(
+            *before,
+            bundle([0, 1], ROOT, A),
+            bundle([0, 1], A, C),
+            bundle([1, 2], ROOT, B),
+            bundle([1, 2], B, D),
+            bundle([2], B, D),
+        ),
     }
 
 
@@ -557,8 +763,31 @@ def pair_logs():
 # ---- A log whose lines do not fit one buffer of the program.
 
 
+# The programs read a log in pieces of so many bytes.
+PIECE = 65_536
+
+
+# A bundle that ends at an offset, behind many single votes, and then one that repeats a vote of it. Refused members
+# fill up what the votes leave.
+def bundle_ending_at(end):
+    start = log(FULL, TREE)
+    singles = [vote(number, parent, spot) for spot, parent in PARENTS.items() for number in range(1, MAX_MEMBERS + 1)]
+    ours = bundle([0, 127], F, H)
+    room = end - len(start) - len(ours)
+    taken = room // len(singles[0])
+    while (room - taken * len(singles[0])) % len(member(1)) != 0:
+        taken -= 1
+    fill = member(1) * ((room - taken * len(singles[0])) // len(member(1)))
+    return start + b"".join(singles[:taken]) + fill + ours + bundle([0, 1], F, H)
+
+
 def long_logs():
-    return {"refusals-past-one-buffer": log(member(1, 0) * 3_000, SMALL, vote(1, ROOT, A))}
+    return {
+        "refusals-past-one-buffer": log(member(1, 0) * 3_000, SMALL, vote(1, ROOT, A)),
+        "refusals-past-one-buffer-in-bundles": log(FULL, bundle(EVERYONE, ROOT, A) * 25, TREE, bundle([0], ROOT, A)),
+        "bundle-at-the-end-of-a-piece": bundle_ending_at(PIECE),
+        "bundle-cut-by-the-end-of-a-piece": bundle_ending_at(PIECE + 44),
+    }
 
 
 # A tree of so many checkpoints, with the root: three branches, side by side. Links of one to five members lead into a
@@ -591,6 +820,7 @@ def paper_logs():
         "paper-49-checkpoints": forest(49),
         "paper-512-checkpoints": forest(512),
         "paper-session": session_logs()["session"],
+        "paper-session-in-bundles": session_logs()["session-in-bundles"],
         "paper-stopped": log(members(1), checkpoint(child(ROOT, "A"), ROOT), b"\x09"),
         "paper-cut": log(members(1), checkpoint(child(ROOT, "A"), ROOT))[:-1],
         "paper-wrong-header": header(mark=b"FFX"),
@@ -617,6 +847,18 @@ GROUPS = [
     row_35_logs,
     row_36_logs,
     vote_order_logs,
+    row_61_logs,
+    row_62_logs,
+    bundle_bit_logs,
+    bundle_link_logs,
+    bundle_held_logs,
+    bundle_36_logs,
+    bundle_order_logs,
+    bundle_vote_order_logs,
+    bundle_full_order_logs,
+    bundle_number_logs,
+    bundle_standing_logs,
+    bundle_charge_logs,
     bar_logs,
     standing_logs,
     conflict_logs,

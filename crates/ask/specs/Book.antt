@@ -14,7 +14,7 @@ use Rattle.model.specs.Log.{header}
 use Rattle.model.specs.Model.{Model, start}
 use Rattle.model.specs.Run.{after, outcomes}
 use Rattle.checker.specs.Check.{checkOf}
-use Rattle.state.specs.Reading.{outcomeOf}
+use Rattle.state.specs.Reading.{outcomeOf, brief, rowsOfVotes, padded}
 use Rattle.witness.specs.Answers.{statusOf, conflictOf}
 use Rattle.ask.specs.declared.Answers.{Answers}
 use Rattle.reader.specs.Many.{lastTold}
@@ -39,7 +39,8 @@ recordsRead (answer name) limit log = length (recordsOf limit log)
 -- whether two final checkpoints conflict, the length of our list where the buffer has room for it, and whether a list that
 -- someone handed in passes, with the bonds that it names
 pub record IsAnswers (log : List ℕ) (limit p : ℕ) (list buffer : List ℕ) (r : Answers) : Type 0 where
-  pub last : outcomeOf (r .last) ≡ andThen (header log) (bookLast limit log)
+  pub last : outcomeOf (r .last) ≡ brief (andThen (header log) (bookLast limit log))
+  pub rows : r .rows ≡ padded (rowsOfVotes (andThen (header log) (bookLast limit log)))
   pub records : r .records ≡ recordsRead (header log) limit log
   pub status : statusOf (r .status) ≡ onBook limit log (λ b. statusAt b p)
   pub conflict : conflictOf (r .conflict) ≡ onBook limit log (λ b. answer (conflicting? b))

@@ -1,5 +1,6 @@
 // A log read from its header on, and then asked: its book answers.
 use checker::CheckAnswer;
+use model::MAX_MEMBERS;
 use model::Place;
 use model::WriteAnswer;
 use state::Outcome;
@@ -11,10 +12,12 @@ ghost use mathlib.Core.Path.{_≡_};
 ghost use Rattle.model.specs.Log.{header};
 ghost use Rattle.ask.specs.Book.{IsAnswers, bookBuffer};
 
-// What can be asked of a log: what the last record read came to and how many were read, the standing of a place, the
-// conflict, our list, and a list that someone handed in.
+// What can be asked of a log: what the last record read came to (of a bundle that is not refused whole, with the row
+// that refused each of its votes, or 0) and how many were read, the standing of a place, the conflict, our list, and a
+// list that someone handed in.
 pub struct Answers {
     pub last: Outcome,
+    pub rows: [u8; MAX_MEMBERS],
     pub records: u64,
     pub status: StatusAnswer,
     pub conflict: ConflictAnswer,
@@ -34,10 +37,12 @@ pub fn ask(w: Witness, log: &[u8], limit: u64, p: Place, theirs: &[u8], buf: &mu
     let start = replayed.start;
     let read = replayed.read;
     let last = read.last;
+    let rows = read.rows;
     let held = read.witness;
     match start {
         Start::Begun => Answers {
             last,
+            rows,
             records: read.records,
             status: witness::status(held, p),
             conflict: witness::conflict(held),
@@ -46,6 +51,7 @@ pub fn ask(w: Witness, log: &[u8], limit: u64, p: Place, theirs: &[u8], buf: &mu
         },
         Start::Refused(refusal) => Answers {
             last: Outcome::Refused(refusal),
+            rows: [0u8; MAX_MEMBERS],
             records: 0,
             status: StatusAnswer::Refused(refusal),
             conflict: ConflictAnswer::Refused(refusal),

@@ -7,7 +7,7 @@ use mathlib.Core.Bool.{Bool, true, false, cond, _||_, true≢false}
 use borrow.Author.Tests.{leb-true, leb-false}
 use lib.Dec.{leb}
 use lib.ListN.{length, getD}
-use Rattle.model.specs.Log.{Kind, memberKind, checkpointKind, voteKind, otherKind, kindOf, sizeOf, recordSize}
+use Rattle.model.specs.Log.{Kind, memberKind, checkpointKind, voteKind, bundleKind, otherKind, kindOf, sizeOf, recordSize}
 use Rattle.buffered.specs.Hold.{whole?, ready?}
 
 -- a record that is whole has its bytes
@@ -25,23 +25,24 @@ module _ (s : List ℕ) where
   unfolding ready?
   not-at-end begun atEnd b e f = rw (e, f)
 
-size-bound : (kind : ℕ) → recordSize kind ≤ 75
+size-bound : (kind : ℕ) → recordSize kind ≤ 89
 unfolding recordSize sizeOf
 size-bound kind = go (kindOf kind)
   where
-    go : (k : Kind) → sizeOf k ≤ 75
+    go : (k : Kind) → sizeOf k ≤ 89
     go memberKind = omega arith
     go checkpointKind = omega arith
     go voteKind = omega arith
+    go bundleKind = omega arith
     go otherKind = omega arith
 
-not-whole : (s : List ℕ) → whole? s ≡ false → length s < 75
+not-whole : (s : List ℕ) → whole? s ≡ false → length s < 89
 unfolding whole?
 not-whole [] e = omega arith
 not-whole (kind ∷ rest) e = omega (arith, leb-false (recordSize kind) (length (kind ∷ rest)) e, size-bound kind)
 
 -- where they are not, there are fewer than the longest record has
-pub few : (begun atEnd : Bool) (s : List ℕ) → ready? begun atEnd s ≡ false → length s < 75
+pub few : (begun atEnd : Bool) (s : List ℕ) → ready? begun atEnd s ≡ false → length s < 89
 unfolding ready?
 few begun true s e = absurd (true≢false e)
 few true false s e = not-whole s e

@@ -14,7 +14,7 @@ use Rattle.state.specs.declared.Start.{Start}
 use Rattle.state.specs.declared.Start.the-variants.{Begun as HasBegun, Refused as RefusedHeader}
 use Rattle.feeding.specs.Feed.{pausedOf}
 use Rattle.feeding.specs.declared.Pause.{Pause}
-use Rattle.codes.specs.Numbers.{refusalOf, valueOf, yesNumber, toldNumber, pauseNumber, IsAnswered, IsBacked, IsTold}
+use Rattle.codes.specs.Numbers.{refusalOf, valueOf, yesNumber, takenNumber, votesNumber, pauseNumber, IsAnswered, IsBacked, IsTold}
 
 -- a bool's byte
 pub byte-of : (b : Bool) → boolByte b ≡ yesNumber b
@@ -55,8 +55,14 @@ pub start-refused : (s : Start) (r : Refusal) (k : ℕ) → k ≡ refusalNumber 
 start-refused s r k n e name = n ∙ sym (ap (λ x. refusalOf (startOf name x)) e)
 
 -- a record's outcome, which the match found to be `o`
-pub told-as : (x o : Outcome) (n t : ℕ) → x ≡ o → n ≡ refusalOf (outcomeOf o) → t ≡ valueOf toldNumber (outcomeOf o) → IsTold (outcomeOf x) (record { refused = n; taken = t })
-told-as x o n t e p q = record { refused = p ∙ sym (ap (λ y. refusalOf (outcomeOf y)) e); taken = q ∙ sym (ap (λ y. valueOf toldNumber (outcomeOf y)) e) }
+pub told-as : (x o : Outcome) (n t v : ℕ) → x ≡ o → n ≡ refusalOf (outcomeOf o) → t ≡ valueOf takenNumber (outcomeOf o) → v ≡ valueOf votesNumber (outcomeOf o)
+    → IsTold (outcomeOf x) (record { refused = n; taken = t; votes = v })
+told-as x o n t v e p q s =
+    record {
+      refused = p ∙ sym (ap (λ y. refusalOf (outcomeOf y)) e);
+      taken = q ∙ sym (ap (λ y. valueOf takenNumber (outcomeOf y)) e);
+      votes = s ∙ sym (ap (λ y. valueOf votesNumber (outcomeOf y)) e);
+    }
 
 -- a pause, which the match found to be `o`
 pub paused-as : (x o : Pause) (n : ℕ) → x ≡ o → n ≡ pauseNumber (pausedOf o) → n ≡ pauseNumber (pausedOf x)

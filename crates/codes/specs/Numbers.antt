@@ -4,10 +4,11 @@ use mathlib.Core.Path.{_≡_}
 use mathlib.Core.List.{List}
 use mathlib.Core.Bool.{Bool, cond}
 use Rattle.model.specs.Answer.{Answer, refused, answer}
-use Rattle.model.specs.Change.{Told, nothingLeft, taken, Decision}
+use Rattle.model.specs.Change.{Decision}
 use Rattle.model.specs.Support.{Support}
 use Rattle.model.specs.declared.Status.{Status}
 use Rattle.model.specs.declared.Status.the-variants.{Plain, Justified, Final}
+use Rattle.state.specs.Reading.{Brief, noneLeft, oneTaken, manyVotes, brief, rowsOfVotes, padded}
 use Rattle.state.specs.State.{stored}
 use Rattle.state.specs.declared.Witness.{Witness}
 use Rattle.text.specs.Put.{Put}
@@ -39,10 +40,17 @@ statusNumber Final = 2
 abbrev pub yesNumber : Bool → ℕ
 yesNumber b = cond b 1 0
 
--- 0 with nothing left and 1 for a record that is taken
-abbrev pub toldNumber : Told → ℕ
-toldNumber nothingLeft = 0
-toldNumber taken = 1
+-- 1 for a record that is taken, and is no bundle
+abbrev pub takenNumber : Brief → ℕ
+takenNumber noneLeft = 0
+takenNumber oneTaken = 1
+takenNumber (manyVotes n) = 0
+
+-- how many votes a bundle has
+abbrev pub votesNumber : Brief → ℕ
+votesNumber noneLeft = 0
+votesNumber oneTaken = 0
+votesNumber (manyVotes n) = n
 
 -- why a call for the report paused
 abbrev pub pauseNumber : Paused → ℕ
@@ -68,22 +76,27 @@ pub record IsBegun (h : Answer (List ℕ)) (w : Witness) (r : Begun) : Type 0 wh
   pub witness : r .witness ≡ w
 
 -- what a record came to
-pub record IsTold (a : Answer Told) (r : Tells) : Type 0 where
+pub record IsTold (a : Answer Brief) (r : Tells) : Type 0 where
   pub refused : r .refused ≡ refusalOf a
-  pub taken : r .taken ≡ valueOf toldNumber a
+  pub taken : r .taken ≡ valueOf takenNumber a
+  pub votes : r .votes ≡ valueOf votesNumber a
 
 -- `h` is what the header says, and `rs` what the records after it come to
 pub record IsReplayed (h : Answer (List ℕ)) (rs : Reads) (r : Replay) : Type 0 where
   pub header : r .header ≡ refusalOf h
-  pub refused : r .refused ≡ refusalOf (rs .last)
-  pub taken : r .taken ≡ valueOf toldNumber (rs .last)
+  pub refused : r .refused ≡ refusalOf (brief (rs .last))
+  pub taken : r .taken ≡ valueOf takenNumber (brief (rs .last))
+  pub votes : r .votes ≡ valueOf votesNumber (brief (rs .last))
+  pub rows : r .rows ≡ padded (rowsOfVotes (rs .last))
   pub records : r .records ≡ rs .records
   pub witness : r .witness ≡ rs .witness
 
 -- `d` is what is decided on the record, and `after` the offset to go on from
 pub record IsRead (w : Witness) (d : Decision) (after : ℕ) (r : Read) : Type 0 where
-  pub refused : r .refused ≡ refusalOf (d .told)
-  pub taken : r .taken ≡ valueOf toldNumber (d .told)
+  pub refused : r .refused ≡ refusalOf (brief (d .told))
+  pub taken : r .taken ≡ valueOf takenNumber (brief (d .told))
+  pub votes : r .votes ≡ valueOf votesNumber (brief (d .told))
+  pub rows : r .rows ≡ padded (rowsOfVotes (d .told))
   pub next : r .next ≡ after
   pub witness : r .witness ≡ stored w d
 

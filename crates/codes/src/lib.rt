@@ -1,6 +1,7 @@
 // Answers as numbers, for a caller in Rust or C.
 use feeding::Fed;
 use feeding::Pause;
+use model::MAX_MEMBERS;
 use model::Refusal;
 use model::Status;
 use model::WriteAnswer;
@@ -39,22 +40,29 @@ pub struct Begun {
     pub witness: Witness,
 }
 
-// What the header came to, and the last record read, `taken` being 1 where it was taken; how many records were read;
-// the witness afterwards.
+// What the header came to, and the last record read, `taken` being 1 where it was taken and is no bundle; where it is a
+// bundle that is not refused whole, how many bits were set, and in the first so many of `rows` the number of the row
+// that refused each of these votes, or 0; how many records were read; the witness afterwards.
 #[repr(C)]
 pub struct Replay {
     pub header: u64,
     pub refused: u64,
     pub taken: u64,
+    pub votes: u64,
+    pub rows: [u8; MAX_MEMBERS],
     pub records: u64,
     pub witness: Witness,
 }
 
-// What reading a record came to, `taken` being 1 where it was taken; the offset to go on from; the witness afterwards.
+// What reading a record came to, `taken` being 1 where it was taken and is no bundle; of a bundle that is not refused
+// whole, how many bits were set, and in the first so many of `rows` the number of the row that refused each of these
+// votes, or 0; the offset to go on from; the witness afterwards.
 #[repr(C)]
 pub struct Read {
     pub refused: u64,
     pub taken: u64,
+    pub votes: u64,
+    pub rows: [u8; MAX_MEMBERS],
     pub next: usize,
     pub witness: Witness,
 }
@@ -71,7 +79,7 @@ pub struct Piece {
     pub witness: Witness,
 }
 
-// The number of a refusal in document 01's table.
+// The number of a refusal.
 pub fn number(r: Refusal) -> u64
     ensures { λ n. ⌜ n ≡ refusalNumber r ⌝ }
 {
@@ -88,10 +96,12 @@ pub fn start_number(s: Start) -> u64
     }
 }
 
-// What a record came to: the number of the refusal, and 1 where it was taken.
+// What a record came to: the number of the refusal, 1 where it was taken and is no bundle, and how many votes a bundle
+// has.
 pub struct Tells {
     pub refused: u64,
     pub taken: u64,
+    pub votes: u64,
 }
 
 pub fn tell(o: Outcome) -> Tells
@@ -101,14 +111,22 @@ pub fn tell(o: Outcome) -> Tells
         Outcome::Nothing => Tells {
             refused: 0,
             taken: 0,
+            votes: 0,
         },
         Outcome::Taken => Tells {
             refused: 0,
             taken: 1,
+            votes: 0,
+        },
+        Outcome::Bundled(n) => Tells {
+            refused: 0,
+            taken: 0,
+            votes: n as u64,
         },
         Outcome::Refused(r) => Tells {
             refused: number(r),
             taken: 0,
+            votes: 0,
         },
     }
 }

@@ -3,35 +3,44 @@
 use Prim.Native.Nat.{ℕ, zero, suc, _+_, _*_, _-_, _<_, _≤_}
 use native.Mathlib.Omega.{arith}
 use mathlib.Core.Path.{_≡_, refl, sym, ap, ap₂, _∙_, subst, transport}
-use mathlib.Core.List.{List, [], _∷_, _++_, map, append-assoc}
+use mathlib.Core.List.{List, [], _∷_, _++_, flatMap, append-assoc}
+use mathlib.Core.Logic.{⊎-elim}
 use mathlib.Core.Bool.{Bool, true, false, cond, _&&_, _||_}
 use borrow.Author.Tests.{eq-eqb, ne-eqb, eqb-false, le-ltb, ltb-true, ltb-false, le-leb, leb-true}
 use lib.Dec.{eqb, ltb, leb}
-use lib.ListN.{length, take, drop, length-map, length-append, length-drop}
+use lib.ListN.{length, take, drop, length-append, length-drop}
 use lib.Seq.{take-at, drop-drop}
 use Rattle.model.specs.Answer.{Answer}
 use Rattle.model.specs.Bytes.{AreBytes}
 use Rattle.model.specs.Change.{Told, Decision}
 use Rattle.model.specs.Decide.{decide}
+use Rattle.model.specs.Lists.{All, none, each}
 use Rattle.model.specs.Log.{recordLength}
-use Rattle.model.specs.Report.{outcomeLine}
-use Rattle.state.specs.Reading.{outcomeOf}
+use Rattle.model.specs.Report.{outcomeLine, outcomeLines}
+use Rattle.state.specs.Reading.{Brief, outcomeOf, brief}
 use Rattle.state.specs.State.{modelOf, stored}
 use Rattle.state.specs.declared.Outcome.{Outcome}
 use Rattle.state.specs.declared.Witness.{Witness}
 use Rattle.state.specs.Sound.{Sound}
 use Rattle.state.proofs.Kept.{reading-sound}
 use Rattle.model.proofs.Bytes.{drop-bytes}
-use Rattle.reader.proofs.Made.{length-inside, while-passed, many-ends}
-use Rattle.reader.specs.Many.{Ended, Many, readMany, rowOf, endOf, endedTold, IsBatch}
+use Rattle.model.proofs.Lists.{all-append}
+use Rattle.model.proofs.Readings.{whole-goes-on}
+use Rattle.reader.specs.Entries.{rowsOf, entriesOf, entries}
+use Rattle.reader.specs.Many.{Ended, endedBy, Many, readMany, endOf, endedTold, IsBatch}
 use Rattle.reader.specs.declared.Batch.{Batch}
+use Rattle.reader.specs.declared.End.the-variants.{Spent, EndedBy}
+use Rattle.reader.proofs.Entries.{marked-length, entries-more}
+use Rattle.reader.proofs.Made.{length-inside, while-passed, Stops, Ends, many-ends, not-both, some-told}
+use Rattle.reader.proofs.Told.{told-rowed}
 use Rattle.text.specs.Put.{Put}
 use Rattle.text.proofs.Putting as Putting
-use Rattle.feeding.specs.Feed.{Feeding, pausedAt, ahead, lineRoom, lastNumber, spent, halted, feedFrom, pausedOf, IsFed}
-use Rattle.feeding.specs.Rows.{rowLines}
+use Rattle.feeding.specs.Feed.{Feeding, pausedAt, ahead, recordRoom, lastNumber, spent, halted, feedFrom, pausedOf, IsFed}
+use Rattle.feeding.specs.Rows.{entryLines, beginning}
 use Rattle.feeding.specs.declared.Fed.{Fed}
 use Rattle.feeding.specs.declared.Pause.{Pause}
-use Rattle.feeding.proofs.Rows.{and-true, told-more, passed-line}
+use Rattle.feeding.proofs.Rows.{and-true, Passed, line-fits, entry-lines, entries-begin, outcome-more}
+use Rattle.feeding.proofs.Told.{halted-brief}
 
 -- `whole` is what the call comes to; the text so far stands in the buffer, from 0 to `end`
 pub record Sofar (whole : Feeding) (log : List ℕ) (at : ℕ) (before : List ℕ) (buf : List ℕ) (held : Witness) (k next end : ℕ) : Type 0 where
@@ -51,19 +60,19 @@ ne-zero (suc n) h = omega arith
 
 -- what `read_on` tests: a line fits, and a number is left
 abbrev pub goesOn : (room k : ℕ) → Bool
-goesOn room k = leb lineRoom room && ltb k lastNumber
+goesOn room k = leb recordRoom room && ltb k lastNumber
 
-pub room-and-number : (room k : ℕ) → goesOn room k ≡ true → (lineRoom ≤ room) × (k < lastNumber)
-room-and-number room k e = let both = and-true (leb lineRoom room) (ltb k lastNumber) e in (leb-true lineRoom room (both .0), ltb-true k lastNumber (both .1))
+pub room-and-number : (room k : ℕ) → goesOn room k ≡ true → (recordRoom ≤ room) × (k < lastNumber)
+room-and-number room k e = let both = and-true (leb recordRoom room) (ltb k lastNumber) e in (leb-true recordRoom room (both .0), ltb-true k lastNumber (both .1))
 
 -- where it fails, no record can be read on
-spent-then : (room k : ℕ) → k ≤ lastNumber → goesOn room k ≡ false → (ltb room lineRoom || eqb k lastNumber) ≡ true
-spent-then room k few e = go (ltb room lineRoom) refl
+spent-then : (room k : ℕ) → k ≤ lastNumber → goesOn room k ≡ false → (ltb room recordRoom || eqb k lastNumber) ≡ true
+spent-then room k few e = go (ltb room recordRoom) refl
   where
-    go : (short : Bool) → ltb room lineRoom ≡ short → (short || eqb k lastNumber) ≡ true
+    go : (short : Bool) → ltb room recordRoom ≡ short → (short || eqb k lastNumber) ≡ true
     go true s = refl
     go false s =
-        let fits = le-leb lineRoom room (ltb-false room lineRoom s) in
+        let fits = le-leb recordRoom room (ltb-false room recordRoom s) in
         let last = ltb-false k lastNumber (ap (λ (b : Bool). b && ltb k lastNumber) (sym fits) ∙ e) in
         eq-eqb k lastNumber (omega (arith, few, last))
 
@@ -124,9 +133,9 @@ module _ {whole : Feeding} {log : List ℕ} {at : ℕ} {before buf : List ℕ} {
   abbrev branches : Bool → Feeding
   branches b = cond b (pausedAt [] (spent (length before - end)) held k) (passing (eqb size 0))
 
-  opened : (b : Bool) → (ltb (length buf - end) lineRoom || eqb k lastNumber) ≡ b → feedFrom (suc (so .fuel)) (length before - end) held k left ≡ branches b
+  opened : (b : Bool) → (ltb (length buf - end) recordRoom || eqb k lastNumber) ≡ b → feedFrom (suc (so .fuel)) (length before - end) held k left ≡ branches b
   unfolding feedFrom
-  opened b e = ap branches (ap (λ (n : ℕ). ltb n lineRoom || eqb k lastNumber) same-room ∙ e)
+  opened b e = ap branches (ap (λ (n : ℕ). ltb n recordRoom || eqb k lastNumber) same-room ∙ e)
 
   -- no room, or no number
   pub spent-here : (why : Pause) → pausedOf why ≡ spent (length buf - end) → goesOn (length buf - end) k ≡ false
@@ -135,13 +144,13 @@ module _ {whole : Feeding} {log : List ℕ} {at : ℕ} {before buf : List ℕ} {
       paused-here (opened true (spent-then (length buf - end) k (so .numbered) e))
       (record { pause = says ∙ ap spent (sym same-room); next = omega arith; records = refl; witness = refl; text = Putting.none buf end end-inside })
 
-  module _ (room : lineRoom ≤ length buf - end) (number : k < lastNumber) where
+  module _ (room : recordRoom ≤ length buf - end) (number : k < lastNumber) where
     goes-on : (b : Bool) → eqb size 0 ≡ b → feedFrom (suc (so .fuel)) (length before - end) held k left ≡ passing b
-    goes-on b e = opened false (ap₂ _||_ (le-ltb (length buf - end) lineRoom room) (ne-eqb k lastNumber (λ e. omega (arith, number, e)))) ∙ ap passing e
+    goes-on b e = opened false (ap₂ _||_ (le-ltb (length buf - end) recordRoom room) (ne-eqb k lastNumber (λ e. omega (arith, number, e)))) ∙ ap passing e
 
     -- no record can be passed
     halted-here : {f : Fed} {after : List ℕ} → size ≡ 0 → IsFed (halted (d .told) held k) next end buf f after → IsFed whole at 0 before f after
-    halted-here none fed = paused-here (goes-on true (eq-eqb size 0 none)) fed
+    halted-here stopped fed = paused-here (goes-on true (eq-eqb size 0 stopped)) fed
 
     -- a record is passed, and its line is written
     passed-here : AreBytes log → {buf′ : List ℕ} {end′ : ℕ} → (size ≡ 0 → ⊥) → Put buf end (outcomeLine k (d .told)) buf′ end′
@@ -177,29 +186,31 @@ module _ {whole : Feeding} {log : List ℕ} {at : ℕ} {before buf : List ℕ} {
 put-text : (l : List ℕ) (at : ℕ) (t : List ℕ) → at + length t ≤ length l → Put l at t (take at l ++ t ++ drop (at + length t) l) (at + length t)
 put-text l at t fits = record { fits = fits; past = refl; left = refl }
 
--- n records may be read: there is room for a line of each, and a number for each
+-- so many entries may be written: there is room for a line of each
 pub record May (log buf : List ℕ) (k end n : ℕ) : Type 0 where
   pub bytes : AreBytes log
   pub room : 64 * n ≤ length buf - end
-  pub numbers : n ≤ lastNumber - k
+  pub number : k < lastNumber
 
 module _ {whole : Feeding} {log : List ℕ} {at : ℕ} {before buf : List ℕ} {held : Witness} {k next end : ℕ} (so : Sofar whole log at before buf held k next end) {n : ℕ} (may : May log buf k end n) where
   -- the lines of what was told, as they will stand in the buffer
   record Batched (ts : List (Answer Told)) (v : Witness) (p : ℕ) : Type 0 where
+    all : All Passed ts
     will : List ℕ
     past : ℕ
-    lines : Put buf end (rowLines k (map rowOf ts)) will past
-    short : past ≤ end + 64 * length ts
+    lines : Put buf end (outcomeLines k ts) will past
+    short : past ≤ end + 64 * length (entries ts)
     sofar : Sofar whole log at before will v (k + length ts) p past
 
   numbered-as : {i j p e : ℕ} {l : List ℕ} {v : Witness} → i ≡ j → Sofar whole log at before l v i p e → Sofar whole log at before l v j p e
   numbered-as {p = p} {e} {l} {v} same s = subst (λ (i : ℕ). Sofar whole log at before l v i p e) same s
 
   none-batched : Batched [] held next
-  unfolding rowLines
+  unfolding outcomeLines flatMap
   none-batched =
       let same : k ≡ k + 0 = omega arith in
       record {
+        all = none;
         will = buf;
         past = end;
         lines = Putting.none buf end (end-inside so);
@@ -207,75 +218,108 @@ module _ {whole : Feeding} {log : List ℕ} {at : ℕ} {before buf : List ℕ} {
         sofar = numbered-as same so;
       }
 
-  one-more : (ts : List (Answer Told)) (v : Witness) (p : ℕ) → length ts < n → eqb (recordLength (drop p log)) 0 ≡ false → Batched ts v p
+  one-more : (ts : List (Answer Told)) (v : Witness) (p : ℕ) → length ts < lastNumber - k → length (entries ts) + 128 ≤ n → eqb (recordLength (drop p log)) 0 ≡ false → Batched ts v p
       → Batched (ts ++ decide (modelOf v) (drop p log) .told ∷ []) (stored v (decide (modelOf v) (drop p log))) (p + recordLength (drop p log))
-  one-more ts v p few some b =
+  one-more ts v p few free some b =
       let t = decide (modelOf v) (drop p log) .told in
       let j = k + length ts in
-      let number : j < lastNumber = omega (arith, may .numbers, few, so .numbered) in
-      let fits : lineRoom ≤ length (b .will) - b .past = omega (arith, may .room, few, b .short, Putting.kept (b .lines), end-inside so) in
-      let line = passed-line j (modelOf v) (drop p log) (omega (arith, number)) some in
-      let put = put-text (b .will) (b .past) (outcomeLine j t) (omega (arith, fits, line .short)) in
+      let number : j < lastNumber = omega (arith, few, so .numbered) in
+      let fits : recordRoom ≤ length (b .will) - b .past = omega (arith, may .room, free, b .short, Putting.kept (b .lines), end-inside so) in
+      let ok : Passed t = record { rowed = told-rowed (modelOf v) (drop p log); goes = whole-goes-on (modelOf v) (drop p log) some } in
+      let short = line-fits j t (omega (arith, number)) ok in
+      let few-entries : length (entriesOf t) ≤ 128 = omega (arith, marked-length (rowsOf t), ok .rowed .few) in
+      let put = put-text (b .will) (b .past) (outcomeLine j t) (omega (arith, fits, short, few-entries)) in
       let long = length-append ts (t ∷ []) in
       let one : j + 1 ≡ k + length (ts ++ t ∷ []) = omega (arith, long) in
       record {
+        all = all-append (b .all) (each ok none);
         will = _;
         past = _;
-        lines = Putting.spelled (Putting.next (b .lines) put) (ap (_++_ (rowLines k (map rowOf ts))) (sym (line .is)) ∙ told-more k ts t);
-        short = omega (arith, b .short, line .short, long);
+        lines = Putting.spelled (Putting.next (b .lines) put) (outcome-more k ts t);
+        short = omega (arith, b .short, short, ap length (entries-more ts t), length-append (entries ts) (entriesOf t));
         sofar = numbered-as one (passed-here (b .sofar) fits number (may .bytes) (eqb-false (recordLength (drop p log)) 0 some) put);
       }
 
   abbrev m : Many
-  m = readMany n held log next
+  m = readMany (lastNumber - k) n held log next
 
   batched : Batched (m .passed) (m .witness) (m .next)
-  batched = while-passed log n Batched one-more held next none-batched
+  batched = while-passed log (lastNumber - k) n Batched one-more held next none-batched
 
   module _ {rows₀ rows : List ℕ} {r : Batch} (is : IsBatch m rows₀ r rows) where
-    pub few-records : r .records ≤ n
-    few-records = omega (arith, is .records, many-ends log n held next .few)
+    ends : Ends log (lastNumber - k) n m
+    ends = many-ends log (lastNumber - k) n held next
 
-    -- the rows are the front of a longer list, which stays as long
+    pub few-records : r .records ≤ lastNumber - k
+    few-records = omega (arith, is .records, ends .few)
+
+    pub few-entries : r .used ≤ n
+    few-entries = omega (arith, is .used, ends .short)
+
+    -- the entries are the front of a longer list, which stays as long
     pub rows-long : (others : List ℕ) → length rows₀ ≡ n → length (rows ++ others) ≡ n + length others
     rows-long others e =
-        let passed = map rowOf (m .passed) in
-        let unused = drop (length (m .passed)) rows₀ in
+        let written = entries (m .passed) in
+        let unused = drop (length written) rows₀ in
         ap (λ (l : List ℕ). length (l ++ others)) (is .rows)
-        ∙ length-append (passed ++ unused) others
-        ∙ omega (arith, length-append passed unused, length-map (m .passed) rowOf, length-drop (length (m .passed)) rows₀, many-ends log n held next .few, e)
+        ∙ length-append (written ++ unused) others
+        ∙ omega (arith, length-append written unused, length-drop (length written) rows₀, ends .short, e)
+
+    -- the entries that were written
+    pub written-are : (others : List ℕ) → take (r .used) (rows ++ others) ≡ entries (m .passed)
+    written-are others =
+        let written = entries (m .passed) in
+        let unused = drop (length written) rows₀ in
+        ap₂ (λ (j : ℕ) (l : List ℕ). take j (l ++ others)) (is .used) (is .rows)
+        ∙ ap (take (length written)) (append-assoc written unused others)
+        ∙ take-at written (unused ++ others) (length written) refl
+
+    -- each record that begins has a number
+    pub numbers : (others : List ℕ) → beginning (take (r .used) (rows ++ others)) ≡ r .records
+    numbers others = ap beginning (written-are others) ∙ entries-begin (m .passed) (batched .all) ∙ sym (is .records)
 
     -- the lines of those that were passed are put
-    module _ (others : List ℕ) {buf′ : List ℕ} {end′ : ℕ} (lines : Put buf end (rowLines k (take (r .records) (rows ++ others))) buf′ end′) where
+    module _ (others : List ℕ) {buf′ : List ℕ} {end′ : ℕ} (lines : Put buf end (entryLines k (take (r .used) (rows ++ others))) buf′ end′) where
       abbrev b : Batched (m .passed) (m .witness) (m .next)
       b = batched
 
-      rows-are : take (r .records) (rows ++ others) ≡ map rowOf (m .passed)
-      rows-are =
-          let unused = drop (length (m .passed)) rows₀ in
-          ap₂ (λ (j : ℕ) (l : List ℕ). take j (l ++ others)) (is .records) (is .rows)
-          ∙ ap (take (length (m .passed))) (append-assoc (map rowOf (m .passed)) unused others)
-          ∙ take-at (map rowOf (m .passed)) (unused ++ others) (length (m .passed)) (length-map (m .passed) rowOf)
+      lines-are : entryLines k (take (r .used) (rows ++ others)) ≡ outcomeLines k (m .passed)
+      lines-are = ap (entryLines k) (written-are others) ∙ entry-lines k (m .passed) (b .all)
 
       ends-there : b .past ≡ end′
-      ends-there = b .lines .past ∙ ap (λ (l : List ℕ). end + length (rowLines k l)) (sym rows-are) ∙ sym (lines .past)
+      ends-there = b .lines .past ∙ ap (λ (l : List ℕ). end + length l) (sym lines-are) ∙ sym (lines .past)
 
       -- behind it, all is as before
       pub batch-here : Sofar whole log at before buf′ (r .witness) (k + r .records) (r .next) end′
       batch-here =
-          let stands = b .lines .left ∙ sym (Putting.spelled lines (ap (rowLines k) rows-are) .left) in
+          let stands = b .lines .left ∙ sym (Putting.spelled lines lines-are .left) in
           transport (λ i. Sofar whole log at before (stands i) (sym (is .witness) i) (k + sym (is .records) i) (sym (is .next) i) (ends-there i)) (b .sofar)
 
-      -- fewer than may be were passed: the next one cannot be
-      module _ (few : r .records < n) where
-        pub room-left : lineRoom ≤ length buf′ - end′
-        room-left = omega (arith, may .room, few, is .records, b .short, ends-there, Putting.kept lines, end-inside so)
+      -- no more may be read: some were passed
+      pub some-passed : 128 ≤ n → r .end ≡ Spent → 0 < r .records
+      some-passed enough e =
+          ⊎-elim
+          (λ h. ⊎-elim (λ all. omega (arith, all, is .records, may .number)) (λ short. omega (arith, is .records, some-told (m .passed) (omega (arith, short, enough)))) (h .1))
+          (λ h. absurd (not-both (sym (ap endOf e) ∙ is .end ∙ h .why)))
+          (ends .here)
 
-        pub halted-last : {f : Fed} {after : List ℕ} → (o : Outcome) (t : Answer Told) → outcomeOf o ≡ endedTold (endOf (r .end)) t
-            → IsFed (halted (outcomeOf o) (r .witness) (k + r .records)) (r .next) end′ buf′ f after
-            → IsFed whole at 0 before f after
-        halted-last {f} {after} o t says fed =
-            let here = many-ends log n held next .here (omega (arith, few, is .records)) in
-            let told-there = says ∙ ap (λ (e : Ended). endedTold e t) (is .end ∙ here .1) ∙ ap₂ (λ (v : Witness) (p : ℕ). decide (modelOf v) (drop p log) .told) (sym (is .witness)) (sym (is .next)) in
-            halted-here batch-here room-left (omega (arith, few, may .numbers, so .numbered)) (ap (λ (p : ℕ). recordLength (drop p log)) (is .next) ∙ here .0)
-            (subst (λ (u : Answer Told). IsFed (halted u (r .witness) (k + r .records)) (r .next) end′ buf′ f after) told-there fed)
+      -- the next one cannot be passed
+      module _ (o : Outcome) (stop : r .end ≡ EndedBy o) where
+        said : endedBy (outcomeOf o) ≡ m .end
+        said = sym (ap endOf stop) ∙ is .end
+
+        stops : Stops log (lastNumber - k) n m
+        stops = ⊎-elim (λ h. absurd (not-both (sym (said ∙ h .0)))) (λ h. h) (ends .here)
+
+        pub room-left : recordRoom ≤ length buf′ - end′
+        room-left = omega (arith, may .room, stops .free, b .short, ends-there, Putting.kept lines, end-inside so)
+
+        pub halted-last : {f : Fed} {after : List ℕ} → IsFed (halted (outcomeOf o) (r .witness) (k + r .records)) (r .next) end′ buf′ f after → IsFed whole at 0 before f after
+        halted-last {f} {after} fed =
+            let d = decide (modelOf (r .witness)) (drop (r .next) log) in
+            let told-there : outcomeOf o ≡ brief (d .told) =
+            ap (λ (e : Ended). endedTold e (outcomeOf o)) (said ∙ stops .why)
+            ∙ ap₂ (λ (v : Witness) (p : ℕ). brief (decide (modelOf v) (drop p log) .told)) (sym (is .witness)) (sym (is .next)) in
+            halted-here batch-here room-left (omega (arith, stops .may, is .records, so .numbered)) (ap (λ (p : ℕ). recordLength (drop p log)) (is .next) ∙ stops .none)
+            (subst (λ (g : Feeding). IsFed g (r .next) end′ buf′ f after)
+            (ap (λ (a : Answer Brief). halted a (r .witness) (k + r .records)) told-there ∙ halted-brief (r .witness) (k + r .records) (d .told)) fed)

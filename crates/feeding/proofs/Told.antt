@@ -8,7 +8,8 @@ use borrow.Author.Tests.{eq-eqb, ne-eqb}
 use lib.ListN.{length, take, drop}
 use lib.Seq.{take-at}
 use Rattle.model.specs.Answer.{Answer, refused, answer}
-use Rattle.model.specs.Change.{Told}
+use Rattle.model.specs.Change.{Told, nothingLeft, taken, bundled}
+use Rattle.state.specs.Reading.{brief}
 use Rattle.model.specs.Report.{stoppedLine}
 use Rattle.state.specs.declared.Witness.{Witness}
 use Rattle.text.specs.Put.{Put}
@@ -17,22 +18,30 @@ use Rattle.feeding.specs.declared.Pause.{Pause}
 
 -- where none can be passed
 module _ (w : Witness) (k : ℕ) where
-  pub halted-ends : {t : Answer Told} (n : ℕ) → t ≡ refused n → n ≡ 4 → pausedAt (stoppedLine n k) ended w k ≡ halted t w k
+  pub halted-ends : {A : Type 0} {t : Answer A} (n : ℕ) → t ≡ refused n → n ≡ 4 → pausedAt (stoppedLine n k) ended w k ≡ halted t w k
   unfolding halted
-  halted-ends n e four =
+  halted-ends {A} n e four =
       ap (λ (m : ℕ). pausedAt (stoppedLine m k) ended w k) four
       ∙ ap (λ (b : Bool). cond b (pausedAt (stoppedLine 4 k) ended w k) (pausedAt [] wants w k)) (sym (eq-eqb n 4 four))
-      ∙ sym (ap (λ (x : Answer Told). halted x w k) e)
+      ∙ sym (ap (λ (x : Answer A). halted x w k) e)
 
-  pub halted-waits : {t : Answer Told} (n : ℕ) → t ≡ refused n → (n ≡ 4 → ⊥) → pausedAt [] wants w k ≡ halted t w k
+  pub halted-waits : {A : Type 0} {t : Answer A} (n : ℕ) → t ≡ refused n → (n ≡ 4 → ⊥) → pausedAt [] wants w k ≡ halted t w k
   unfolding halted
-  halted-waits n e other =
+  halted-waits {A} n e other =
       ap (λ (b : Bool). cond b (pausedAt (stoppedLine 4 k) ended w k) (pausedAt [] wants w k)) (sym (ne-eqb n 4 other))
-      ∙ sym (ap (λ (x : Answer Told). halted x w k) e)
+      ∙ sym (ap (λ (x : Answer A). halted x w k) e)
 
-  pub halted-none : {t : Answer Told} {u : Told} → t ≡ answer u → pausedAt [] wants w k ≡ halted t w k
+  pub halted-none : {A : Type 0} {t : Answer A} {u : A} → t ≡ answer u → pausedAt [] wants w k ≡ halted t w k
   unfolding halted
-  halted-none e = sym (ap (λ (x : Answer Told). halted x w k) e)
+  halted-none {A} e = sym (ap (λ (x : Answer A). halted x w k) e)
+
+  -- what was told, in brief or in full
+  pub halted-brief : (t : Answer Told) → halted (brief t) w k ≡ halted t w k
+  unfolding halted brief
+  halted-brief (refused n) = refl
+  halted-brief (answer nothingLeft) = refl
+  halted-brief (answer taken) = refl
+  halted-brief (answer (bundled os)) = refl
 
 -- what is given back there
 pub paused-fed : {f : Feeding} (w : Witness) (k next at : ℕ) (text before after : List ℕ) (why : Pause) {n : ℕ} → pausedAt text (pausedOf why) w k ≡ f → Put before at text after n

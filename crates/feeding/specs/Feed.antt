@@ -1,13 +1,13 @@
 -- The report of a log that is fed in pieces: what each call writes, and where it pauses.
-use Prim.Native.Nat.{ℕ, zero, suc, _+_, _-_}
+use Prim.Native.Nat.{ℕ, zero, suc, _+_, _*_, _-_}
 use mathlib.Core.Path.{_≡_}
 use mathlib.Core.List.{List, [], _++_}
 use mathlib.Core.Bool.{Bool, cond, not, _&&_, _||_}
 use lib.Dec.{eqb, ltb}
 use lib.ListN.{length, drop}
 use Rattle.model.specs.Answer.{Answer, refused, answer}
-use Rattle.model.specs.Change.{Told}
 use Rattle.model.specs.Decide.{decide}
+use Rattle.model.specs.Limits.{memberLimit}
 use Rattle.model.specs.Log.{header, recordLength}
 use Rattle.model.specs.Model.{Model}
 use Rattle.model.specs.Refusals.{refusalNumber}
@@ -20,9 +20,9 @@ use Rattle.feeding.specs.declared.Fed.{Fed}
 use Rattle.feeding.specs.declared.Pause.{Pause}
 use Rattle.feeding.specs.declared.Pause.the-variants.{Wants, Full, OutOfNumbers, Ended, Refused}
 
--- Why a call paused: it wants more of the log, since nothing is left or the last record is cut; the buffer has no room for
--- another line, or for the last text; no record number is left; the report has ended, and nothing more belongs to it; or the
--- call was refused.
+-- Why a call paused: it wants more of the log, since nothing is left or the last record is cut; the buffer has no room
+-- for the lines of another record, or for the last text; no record number is left; the report has ended, and nothing
+-- more belongs to it; or the call was refused.
 pub data Paused : Type 0 where
   wants : Paused
   full : Paused
@@ -42,37 +42,48 @@ pub record Feeding : Type 0 where
 abbrev pub pausedAt : List ℕ → Paused → Witness → ℕ → Feeding
 pausedAt text why w k = record { text = text; paused = why; passed = 0; records = k; witness = w }
 
--- a line that was written, and bytes that were passed, before
+-- lines that were written, and bytes that were passed, before
 abbrev pub ahead : List ℕ → ℕ → Feeding → Feeding
-ahead line n f = record { text = line ++ f .text; paused = f .paused; passed = n + f .passed; records = f .records; witness = f .witness }
+ahead lines n f =
+    record {
+      text = lines ++ f .text;
+      paused = f .paused;
+      passed = n + f .passed;
+      records = f .records;
+      witness = f .witness;
+    }
 
--- the longest line of a record has fewer bytes
+-- the longest line has fewer bytes
 abbrev pub lineRoom : ℕ
 lineRoom = 64
+
+-- and the lines of one record, which may be a bundle
+abbrev pub recordRoom : ℕ
+recordRoom = memberLimit * lineRoom
 
 -- record numbers are of 64 bits, and no record has the last of them
 abbrev pub lastNumber : ℕ
 lastNumber = 18446744073709551615
 
--- why no record can be read on: no line fits, or else no number is left
+-- why no record can be read on: the lines of a bundle might not fit, or else no number is left
 abbrev pub spent : ℕ → Paused
-spent room = cond (ltb room lineRoom) full outOfNumbers
+spent room = cond (ltb room recordRoom) full outOfNumbers
 
 -- where no record can be passed: an unknown kind ends the report; a cut record may be whole with the next piece
-unfoldable pub halted : Answer Told → Witness → ℕ → Feeding
+unfoldable pub halted : {A : Type 0} → Answer A → Witness → ℕ → Feeding
 halted (refused n) w k = cond (eqb n 4) (pausedAt (stoppedLine 4 k) ended w k) (pausedAt [] wants w k)
-halted (answer t) w k = pausedAt [] wants w k
+halted (answer a) w k = pausedAt [] wants w k
 
 -- Record k and those after it, from the bytes s, with so much room in the buffer; n bounds how many.
 unfoldable pub feedFrom : ℕ → ℕ → Witness → ℕ → List ℕ → Feeding
 feedFrom zero room w k s = pausedAt [] wants w k
 feedFrom (suc n) room w k s =
     let d = decide (modelOf w) s in
-    let line = outcomeLine k (d .told) in
+    let lines = outcomeLine k (d .told) in
     let size = recordLength s in
-    cond (ltb room lineRoom || eqb k lastNumber) (pausedAt [] (spent room) w k)
+    cond (ltb room recordRoom || eqb k lastNumber) (pausedAt [] (spent room) w k)
     (cond (eqb size 0) (halted (d .told) w k)
-    (ahead line size (feedFrom n (room - length line) (stored w d) (k + 1) (drop size s))))
+    (ahead lines size (feedFrom n (room - length lines) (stored w d) (k + 1) (drop size s))))
 
 -- row 40 before everything else
 unfoldable pub onSound : Witness → ℕ → Feeding → Feeding

@@ -1,6 +1,7 @@
 // How a call of the report goes on: what it comes to, and the records of a piece read on, the lines of those that are
 // refused into a lent buffer.
 use model::Refusal;
+use reader::End;
 use state::Outcome;
 use state::Witness;
 ghost use mathlib.Core.Path.{_≡_};
@@ -9,14 +10,17 @@ ghost use lib.ListN.{length, drop};
 ghost use Rattle.state.specs.Reading.{outcomeOf};
 ghost use Rattle.state.specs.Sound.{Sound};
 ghost use Rattle.text.specs.Put.{Put};
-ghost use Rattle.feeding.specs.Feed.{lineRoom, lastNumber, spent, pausedOf, halted, feedFrom, IsFed};
-ghost use Rattle.feeding.specs.Rows.{rowLines};
+ghost use Rattle.feeding.specs.Feed.{recordRoom, lastNumber, spent, pausedOf, halted, feedFrom, IsFed};
+ghost use Rattle.feeding.specs.Rows.{entryLines, beginning};
 
 // No record has this number, since the one after it would have none.
 const LAST_NUMBER: u64 = 18_446_744_073_709_551_615;
 
-// Why a call paused: it wants the next piece; the buffer has no room for a line, or for the last text; no record number
-// is left; the report has ended; or row 40.
+// The lines of one record have fewer bytes: a bundle has at most 128 votes, and a line fewer than 64 bytes.
+const RECORD_ROOM: usize = 8192;
+
+// Why a call paused: it wants the next piece; the buffer has no room for the lines of a record, or for the last text;
+// no record number is left; the report has ended; or row 40.
 pub enum Pause {
     Wants,
     Full,
@@ -35,39 +39,42 @@ pub struct Fed {
     pub witness: Witness,
 }
 
-// How many records may be read at once: each needs one of 1024 rows, a number, and room for a line.
-fn batch(room: usize, numbers: u64) -> usize
-    requires { ⌜ (lineRoom ≤ room) × (0 < numbers) ⌝ }
-    ensures { λ n. ⌜ (0 < n) × (n ≤ 1024) × (64 * n ≤ room) × (n ≤ numbers) ⌝ }
+// How many entries may be written at once: each needs one of 1024 rows, and room for a line.
+fn batch(room: usize) -> usize
+    requires { ⌜ recordRoom ≤ room ⌝ }
+    ensures { λ n. ⌜ (128 ≤ n) × (n ≤ 1024) × (64 * n ≤ room) ⌝ }
 {
     let lines = room / 64;
-    if numbers < 1024 {
-        let few = numbers as usize;
-        if few < lines {
-            return few;
-        }
-        return lines;
-    }
     if lines < 1024 {
         return lines;
     }
     1024
 }
 
-// The lines of record k and those after it, by their rows: each that was refused has one.
+// The lines of record k and those after it, by their entries: each record, or vote of a bundle, that was refused has
+// one, with the record's number.
 fn refused_lines(buf: &mut [u8], at: usize, k: u64, rows: &[u8]) -> usize
-    requires { ⌜ (at + 64 * length (now rows) ≤ length (now buf)) × (k + length (now rows) ≤ lastNumber) ⌝ }
+    requires { ⌜
+        (at + 64 * length (now rows) ≤ length (now buf)) × (k + beginning (now rows) ≤ lastNumber)
+        ⌝ }
     ensures { λ r. ⌜
-        Put (now (buf .entry)) at (rowLines k (now (rows .entry))) (now (buf .exit)) r ×
-        (r ≤ at + 64 * length (now (rows .entry)))
+        Put (now (buf .entry)) at (entryLines k (now (rows .entry))) (now (buf .exit)) r
+        × (r ≤ at + 64 * length (now (rows .entry)))
         ⌝ }
 {
     let mut end = at;
+    let mut number = k;
+    let mut next = k;
     let mut i: usize = 0;
     while i < rows.len() {
-        let row = rows[i];
+        let entry = rows[i];
+        if entry < 128 {
+            number = next;
+            next += 1;
+        }
+        let row = entry % 128;
         if row != 0 {
-            end = lines::refused_line(buf, end, k + i as u64, row);
+            end = lines::refused_line(buf, end, number, row);
         }
         i += 1;
     }
@@ -96,6 +103,7 @@ fn halt(w: Witness, buf: &mut [u8], at: usize, next: usize, k: u64, o: Outcome) 
         }
         Outcome::Nothing => {}
         Outcome::Taken => {}
+        Outcome::Bundled(_) => {}
     }
     Fed {
         pause: Pause::Wants,
@@ -106,11 +114,11 @@ fn halt(w: Witness, buf: &mut [u8], at: usize, next: usize, k: u64, o: Outcome) 
     }
 }
 
-// Why no record can be read on: the buffer has no room for a line, or else no number is left.
+// Why no record can be read on: the buffer has no room for the lines of one, or else no number is left.
 fn why_spent(room: usize) -> Pause
     ensures { λ r. ⌜ pausedOf r ≡ spent room ⌝ }
 {
-    if room < 64 {
+    if room < RECORD_ROOM {
         return Pause::Full;
     }
     Pause::OutOfNumbers
@@ -136,19 +144,21 @@ pub fn read_on(w: Witness, records: u64, log: &[u8], at: usize, buf: &mut [u8]) 
     let mut k = records;
     let mut next = at;
     let mut end: usize = 0;
-    while (64 <= buf.len() - end) & (k < LAST_NUMBER) {
-        let most = batch(buf.len() - end, LAST_NUMBER - k);
-        let r = log_reader::read_from(held, log, next, &mut rows[..most]);
+    while (RECORD_ROOM <= buf.len() - end) & (k < LAST_NUMBER) {
+        let most = batch(buf.len() - end);
+        let r = log_reader::read_from(held, log, next, LAST_NUMBER - k, &mut rows[..most]);
         let ended = r.end;
-        let passed = r.records;
+        let used = r.used;
         held = r.witness;
         next = r.next;
-        end = refused_lines(buf, end, k, &rows[..passed]);
-        k += passed as u64;
-        // fewer than may be: the next one cannot be passed
-        if passed < most {
-            let outcome = reader::ended_by(ended, Outcome::Nothing);
-            return halt(held, buf, end, next, k, outcome);
+        end = refused_lines(buf, end, k, &rows[..used]);
+        k += r.records;
+        match ended {
+            // the next one cannot be passed
+            End::EndedBy(outcome) => {
+                return halt(held, buf, end, next, k, outcome);
+            }
+            End::Spent => {}
         }
     }
     Fed {

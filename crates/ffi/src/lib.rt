@@ -55,6 +55,7 @@ pub extern "C" fn ffw_replay(w: Witness, log: &[u8], limit: u64) -> Replay
     let start = replayed.start;
     let read = replayed.read;
     let last = read.last;
+    let rows = read.rows;
     let records = read.records;
     let witness = read.witness;
     let told = codes::tell(last);
@@ -62,12 +63,14 @@ pub extern "C" fn ffw_replay(w: Witness, log: &[u8], limit: u64) -> Replay
         header: codes::start_number(start),
         refused: told.refused,
         taken: told.taken,
+        votes: told.votes,
+        rows,
         records,
         witness,
     }
 }
 
-// Reading the record at an offset of a log: rows 40, 4, 5 and 10 to 36; nothing left at or past the end.
+// Reading the record at an offset of a log: rows 40, 4, 5 and those of its kind; nothing left at or past the end.
 #[no_mangle]
 pub extern "C" fn ffw_read(w: Witness, log: &[u8], at: usize) -> Read
     ensures { λ r. ⌜
@@ -76,12 +79,15 @@ pub extern "C" fn ffw_read(w: Witness, log: &[u8], at: usize) -> Read
 {
     let reading = witness::read(w, log, at);
     let outcome = reading.outcome;
+    let rows = reading.rows;
     let next = reading.next;
     let witness = reading.witness;
     let told = codes::tell(outcome);
     Read {
         refused: told.refused,
         taken: told.taken,
+        votes: told.votes,
+        rows,
         next,
         witness,
     }
@@ -205,7 +211,7 @@ pub extern "C" fn ffw_open(w: Witness, log: &[u8], last: bool, buf: &mut [u8]) -
     codes::in_numbers(report::open(w, log, last, buf))
 }
 
-// The records of a piece from `at` on; row 40.
+// The records of a piece from `at` on, while 8,192 bytes of the buffer are free; row 40.
 #[no_mangle]
 pub extern "C" fn ffw_feed(w: Witness, records: u64, log: &[u8], at: usize, buf: &mut [u8]) -> Piece
     ensures { λ r. ⌜

@@ -67,15 +67,37 @@ fn put_checkpoint(bytes: &[u8], out: &mut [u8], at: usize) -> usize
     put_name(out, parent, b" under ", bytes, 33)
 }
 
+// The link of a vote or a bundle, which stands at `from`: two names, and the heights given for them.
+fn put_link(bytes: &[u8], from: usize, out: &mut [u8], at: usize) -> usize
+    requires { ⌜ (from + 72 ≤ length (now bytes)) × (at + 188 ≤ length (now out)) ⌝ }
+    ensures { λ r. ⌜ r ≤ at + 188 ⌝ }
+{
+    let target = put_name(out, at, b" from ", bytes, from);
+    let heights = put_name(out, target, b" to ", bytes, from + 32);
+    let height = put_field(
+        out,
+        heights,
+        b" heights ",
+        wire::be32(bytes, from + 64) as u64,
+    );
+    put_field(out, height, b" ", wire::be32(bytes, from + 68) as u64)
+}
+
 fn put_vote(bytes: &[u8], out: &mut [u8], at: usize) -> usize
     requires { ⌜ (75 ≤ length (now bytes)) × (at + 235 ≤ length (now out)) ⌝ }
     ensures { λ r. ⌜ r ≤ at + 235 ⌝ }
 {
-    let source = put_field(out, at, b" vote of ", wire::be16(bytes, 1) as u64);
-    let target = put_name(out, source, b" from ", bytes, 3);
-    let heights = put_name(out, target, b" to ", bytes, 35);
-    let height = put_field(out, heights, b" heights ", wire::be32(bytes, 67) as u64);
-    put_field(out, height, b" ", wire::be32(bytes, 71) as u64)
+    let link = put_field(out, at, b" vote of ", wire::be16(bytes, 1) as u64);
+    put_link(bytes, 3, out, link)
+}
+
+fn put_bundle(bytes: &[u8], out: &mut [u8], at: usize) -> usize
+    requires { ⌜ (89 ≤ length (now bytes)) × (at + 235 ≤ length (now out)) ⌝ }
+    ensures { λ r. ⌜ r ≤ at + 235 ⌝ }
+{
+    let bits = text::put(out, at, b" bundle of ");
+    let link = put_hex(out, bits, bytes, 1, 16);
+    put_link(bytes, 17, out, link)
 }
 
 fn wide(x: u8) -> u64 {
@@ -90,7 +112,8 @@ fn put_record(kind: u8, bytes: &[u8], out: &mut [u8], at: usize) -> usize
         1 => put_member(bytes, out, at),
         2 => put_checkpoint(bytes, out, at),
         3 => put_vote(bytes, out, at),
-        0 | 4..=255 => put_field(out, at, b" unknown kind ", wide(kind)),
+        5 => put_bundle(bytes, out, at),
+        0 | 4 | 6..=255 => put_field(out, at, b" unknown kind ", wide(kind)),
     }
 }
 
@@ -265,7 +288,7 @@ fn show(t: Dump, input: &mut [u8], out: &mut [u8]) -> Dump
 
 // One turn: what is at hand, or a read where that is too little.
 fn step(t: Dump, input: &mut [u8], out: &mut [u8]) -> Dump
-    requires { ⌜ (t .have ≤ length (now input)) × (75 ≤ length (now input)) × (256 ≤ length (now out)) ⌝ }
+    requires { ⌜ (t .have ≤ length (now input)) × (89 ≤ length (now input)) × (256 ≤ length (now out)) ⌝ }
     ensures { λ r. ⌜ r .have ≤ length (now (input .exit)) ⌝ }
 {
     let have = t.have;
@@ -277,7 +300,7 @@ fn step(t: Dump, input: &mut [u8], out: &mut [u8]) -> Dump
 
 // A proved loop has to end, and nothing says that a file does: so it counts down from a number that no run uses up.
 fn dump_log(input: &mut [u8], out: &mut [u8])
-    requires { ⌜ (75 ≤ length (now input)) × (256 ≤ length (now out)) ⌝ }
+    requires { ⌜ (89 ≤ length (now input)) × (256 ≤ length (now out)) ⌝ }
 {
     let mut t = Dump {
         more: true,

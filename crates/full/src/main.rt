@@ -454,6 +454,10 @@ fn say_reading(w: Witness, log: &[u8], at: usize) {
         Outcome::Taken => {
             io::write_all(STDOUT_FILENO, b"taken\n");
         }
+        Outcome::Bundled(n) => {
+            say(b"bundle of ", n as u64);
+            end_line();
+        }
         Outcome::Refused(refusal) => say_refused(refusal),
     }
 }

@@ -61,7 +61,7 @@ pub decided-here : (w : Witness) → Sound w → (s : List ℕ) → eventCall w 
 unfolding decideEvent
 decided-here w sound s = decided-is w (modelOf w) (holds w sound) (reading s)
 
-step-holds : (w : Witness) (b : Model) → Holds w b → (e : Event) → OfBytes e → Holds (stored w (eventCall w e)) (decided b (decideEvent b e))
+pub step-holds : (w : Witness) (b : Model) → Holds w b → (e : Event) → OfBytes e → Holds (stored w (eventCall w e)) (decided b (decideEvent b e))
 step-holds w b h e bytes =
     let same = sym (sound-event w e (true-sound w (h .sound))) in
     record {

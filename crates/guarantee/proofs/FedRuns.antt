@@ -21,14 +21,14 @@ use Rattle.model.proofs.Refused.{Keeps, single-keeps, refused-keeps as event-ke
 use Rattle.state.specs.State.{modelOf, storeAll, stored}
 use Rattle.state.specs.declared.Witness.{Witness}
 use Rattle.state.proofs.Kept.{reading-kept}
-use Rattle.reader.specs.Many.{endedBy}
+use Rattle.reader.specs.Many.{endedBy, nonePassed}
 use Rattle.reader.proofs.Made.{length-inside}
 use Rattle.state.specs.Sound.{Sound, sound?}
 use Rattle.state.proofs.Sound.{sound-true}
 use Rattle.witness.specs.Calls.{held, decideOn, eventCall, writeCall, writeBuffer}
 use Rattle.witness.specs.Readings.{manyCall}
 use Rattle.witness.proofs.Placed.{write-40}
-use Rattle.feeding.specs.Feed.{Paused, wants, full, outOfNumbers, ended, refusedBy, Feeding, pausedAt, ahead, lineRoom, lastNumber, spent, halted, headed, openCall, feedCall, endFed, endCall, endText}
+use Rattle.feeding.specs.Feed.{Paused, wants, full, outOfNumbers, ended, refusedBy, Feeding, pausedAt, ahead, lineRoom, recordRoom, lastNumber, spent, halted, headed, openCall, feedCall, endFed, endCall, endText}
 use Rattle.feeding.specs.Feed as Feed
 use Rattle.pieces.proofs.ByRecord.{call-elim, Halts, nothing-left, unknown, cut, halts, unknown-decided, cut-decided}
 use Rattle.guarantee.specs.CallsAreRuns.{firstRecords, behindRecords, no-record, one-record, stopLine, Cause, FedRun, FeedIsRun, CallsKeep}
@@ -44,11 +44,11 @@ module _ (room : ℕ) (w : Witness) (k : ℕ) (s : List ℕ) where
       let none : k ≡ k + 0 = omega arith in
       record { number = 0; whole = no-record; records = none; witness = refl; inside = omega arith; left = refl; text = refl; cause = cause }
 
-  spent-run : (ltb room lineRoom || eqb k lastNumber) ≡ true → FedRun room w k s (pausedAt [] (spent room) w k)
-  spent-run none = go (ltb room lineRoom) refl none
+  spent-run : (ltb room recordRoom || eqb k lastNumber) ≡ true → FedRun room w k s (pausedAt [] (spent room) w k)
+  spent-run none = go (ltb room recordRoom) refl none
     where
-      go : (no-room : Bool) → ltb room lineRoom ≡ no-room → (no-room || eqb k lastNumber) ≡ true → FedRun room w k s (pausedAt [] (cond no-room full outOfNumbers) w k)
-      go true e none = none-passed full (omega (arith, ltb-true room lineRoom e))
+      go : (no-room : Bool) → ltb room recordRoom ≡ no-room → (no-room || eqb k lastNumber) ≡ true → FedRun room w k s (pausedAt [] (cond no-room full outOfNumbers) w k)
+      go true e none = none-passed full (omega (arith, ltb-true room recordRoom e))
       go false e none = none-passed outOfNumbers (eqb-true k lastNumber none)
 
 halted-run : (room : ℕ) (w : Witness) → Sound w → (k : ℕ) (s : List ℕ) → Halts s → FedRun room w k s (halted (decide (modelOf w) s .told) w k)
@@ -137,9 +137,9 @@ module _ (w : Witness) where
   unfolding feedCall Feed.onSound
   feed-unsound e room k s = rw e
 
-  many-unsound : sound? w ≡ false → (n : ℕ) (log : List ℕ) (at : ℕ) → manyCall n w log at ≡ record { passed = []; end = endedBy (refused 40); next = at; witness = w }
+  many-unsound : sound? w ≡ false → (n room : ℕ) (log : List ℕ) (at : ℕ) → manyCall n room w log at ≡ nonePassed (endedBy (refused 40)) w at
   unfolding manyCall
-  many-unsound e n log at = rw e
+  many-unsound e n room log at = rw e
 
   write-unsound : sound? w ≡ false → (text : Model → List ℕ) (buffer : List ℕ)
       → (writeCall text w buffer ≡ refused 40) × (writeBuffer text w buffer ≡ buffer)

@@ -3,3 +3,4 @@ pub mod FirstRecords
 pub mod ManyRuns
 pub mod FedRuns
 pub mod PiecesRuns
+pub mod Bundles

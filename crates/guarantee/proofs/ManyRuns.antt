@@ -1,11 +1,12 @@
 -- `read_many` is a run over the records that it passed.
-use Prim.Native.Nat.{ℕ, zero, suc, _+_}
+use Prim.Native.Nat.{ℕ, zero, suc, _+_, _-_}
 use native.Mathlib.Omega.{arith}
 use mathlib.Core.Path.{_≡_, refl, sym, ap, _∙_, subst}
 use mathlib.Core.List.{List, [], _∷_}
+use mathlib.Core.Logic.{inl, inr, ⊎-elim}
 use mathlib.Core.Bool.{Bool, true, false, cond}
 use borrow.Author.Tests.{eqb-false}
-use lib.Dec.{eqb}
+use lib.Dec.{eqb, ltb}
 use lib.ListN.{length, drop, length-drop}
 use lib.Seq.{drop-drop}
 use Rattle.model.specs.Bytes.{AreBytes}
@@ -15,7 +16,9 @@ use Rattle.model.specs.Lists.{each}
 use Rattle.model.specs.Log.{recordLength}
 use Rattle.state.specs.State.{modelOf, stored}
 use Rattle.state.specs.declared.Witness.{Witness}
-use Rattle.reader.specs.Many.{rowsUsed, endedBy, Many, behind, readMany}
+use Rattle.reader.specs.Entries.{entriesOf}
+use Rattle.reader.specs.Many.{Ended, spent, endedBy, Many, behind, nonePassed, readMany}
+use Rattle.state.specs.Reading.{brief}
 use Rattle.model.proofs.Bytes.{drop-bytes}
 use Rattle.state.specs.Sound.{Sound}
 use Rattle.state.proofs.Kept.{reading-sound}
@@ -36,10 +39,15 @@ module _ (log : List ℕ) (bytes : AreBytes log) where
     left : drop (m .next) log ≡ behindRecords (length (m .passed)) (drop at log)
     offset : m .next + length (drop (m .next) log) ≡ at + length (drop at log)
 
-  many-run : (n : ℕ) (w : Witness) → Sound w → (at : ℕ) → Run w at (readMany n w log at)
+  stays : (w : Witness) (at : ℕ) {why : Ended} → Run w at (nonePassed why w at)
+  unfolding firstRecords behindRecords toldOf witnessAfter
+  stays w at = record { whole = no-record; each-told = refl; witness = refl; left = refl; offset = refl }
+
+  many-run : (n room : ℕ) (w : Witness) → Sound w → (at : ℕ) → Run w at (readMany n room w log at)
   unfolding readMany firstRecords behindRecords toldOf witnessAfter
-  many-run zero w sound at = record { whole = no-record; each-told = refl; witness = refl; left = refl; offset = refl }
-  many-run (suc n) w sound at = go (many-run n (stored w d) (reading-sound w sound s (drop-bytes at log bytes)) (at + recordLength s)) (eqb (recordLength s) 0) refl
+  many-run zero room w sound at = stays w at
+  many-run (suc n) room w sound at =
+      go (many-run n (room - length (entriesOf (d .told))) (stored w d) (reading-sound w sound s (drop-bytes at log bytes)) (at + recordLength s)) (ltb room 128) (eqb (recordLength s) 0) refl
     where
       s : List ℕ
       s = drop at log
@@ -48,12 +56,13 @@ module _ (log : List ℕ) (bytes : AreBytes log) where
       d = decide (modelOf w) s
 
       on : Many
-      on = readMany n (stored w d) log (at + recordLength s)
+      on = readMany n (room - length (entriesOf (d .told))) (stored w d) log (at + recordLength s)
 
-      go : Run (stored w d) (at + recordLength s) on → (b : Bool) → eqb (recordLength s) 0 ≡ b
-          → Run w at (cond b (record { passed = []; end = endedBy (d .told); next = at; witness = w }) (behind (d .told ∷ []) on))
-      go ih true e = record { whole = no-record; each-told = refl; witness = refl; left = refl; offset = refl }
-      go ih false e =
+      go : Run (stored w d) (at + recordLength s) on → (short b : Bool) → eqb (recordLength s) 0 ≡ b
+          → Run w at (cond short (nonePassed spent w at) (cond b (nonePassed (endedBy (brief (d .told))) w at) (behind (d .told ∷ []) on)))
+      go ih true b e = stays w at
+      go ih false true e = stays w at
+      go ih false false e =
           let k = length (on .passed) in
           let past = sym (drop-drop (recordLength s) at log) in
           let later = ap (firstRecords k) past in
@@ -65,35 +74,17 @@ module _ (log : List ℕ) (bytes : AreBytes log) where
             offset = ih .offset ∙ omega (arith, length-drop at log, length-drop (at + recordLength s) log, length-inside s, eqb-false (recordLength s) 0 e);
           }
 
-  -- as many were passed as may be
-  all-passed : (n : ℕ) (w : Witness) (at : ℕ) → length (readMany n w log at .passed) ≡ n → readMany n w log at .end ≡ rowsUsed
-  unfolding readMany
-  all-passed zero w at e = refl
-  all-passed (suc n) w at e = go (eqb (recordLength (drop at log)) 0) (all-passed n (stored w (decide (modelOf w) (drop at log))) (at + recordLength (drop at log))) e
-    where
-      d : Decision
-      d = decide (modelOf w) (drop at log)
-
-      on : Many
-      on = readMany n (stored w d) log (at + recordLength (drop at log))
-
-      go : (b : Bool) → (length (on .passed) ≡ n → on .end ≡ rowsUsed)
-          → let m = cond b (record { passed = []; end = endedBy (d .told); next = at; witness = w }) (behind (d .told ∷ []) on) in
-          length (m .passed) ≡ suc n → m .end ≡ rowsUsed
-      go true ih e = absurd (omega (arith, e))
-      go false ih e = ih (omega (arith, e))
-
 pub many-is-run : ManyIsRun
 unfolding manyCall
-many-is-run w typed is-sound n log bytes at = rw is-sound (go (readMany n w log at) refl)
+many-is-run w typed is-sound n room log bytes at = rw is-sound (go (readMany n room w log at) refl)
   where
     sound : Sound w
     sound = sound-true w typed is-sound
 
-    go : (m : Many) → m ≡ readMany n w log at → ManyRun n w log at m
+    go : (m : Many) → m ≡ readMany n room w log at → ManyRun n room w log at m
     go m e =
-        let run = subst (Run log bytes w at) (sym e) (many-run log bytes n w sound at) in
-        let ends = subst (Ends log n) (sym e) (many-ends log n w at) in
+        let run = subst (Run log bytes w at) (sym e) (many-run log bytes n room w sound at) in
+        let ends = subst (Ends log n room) (sym e) (many-ends log n room w at) in
         let read-sound = subst Sound (sym (run .witness)) (run-sound w sound (firstRecords (length (m .passed)) (drop at log)) (first-bytes (length (m .passed)) (drop at log) (drop-bytes at log bytes))) in
         record {
           whole = run .whole;
@@ -102,8 +93,16 @@ many-is-run w typed is-sound n log bytes at = rw is-sound (go (readMany n w log 
           left = run .left;
           offset = run .offset;
           at-most = ends .few;
-          rows-used = subst (λ (x : Many). length (x .passed) ≡ n → x .end ≡ rowsUsed) (sym e) (all-passed log bytes n w at);
-          ended-early = λ h.
-              let here = ends .here h in
-              (here .0, here .1 ∙ ap (λ (x : Decision). endedBy (x .told)) (sym (decided-here (m .witness) read-sound (drop (m .next) log))));
+          within = ends .short;
+          ends =
+              ⊎-elim inl
+              (λ h.
+              inr
+              (record {
+                may = h .may;
+                free = h .free;
+                none = h .none;
+                why = h .why ∙ ap (λ (x : Decision). endedBy (brief (x .told))) (sym (decided-here (m .witness) read-sound (drop (m .next) log)));
+              }))
+              (ends .here);
         }

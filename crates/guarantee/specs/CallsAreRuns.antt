@@ -9,18 +9,22 @@ use mathlib.Core.Bool.{Bool, true, false}
 use lib.ListN.{length, drop}
 use Rattle.model.specs.Answer.{refused, answer}
 use Rattle.model.specs.Bytes.{AreBytes}
+use Rattle.model.specs.Limits.{memberLimit}
 use Rattle.model.specs.Lists.{All}
 use Rattle.model.specs.Log.{header, recordLength}
 use Rattle.model.specs.Model.{Model, start}
 use Rattle.model.specs.Report.{stoppedLine, outcomeLines}
 use Rattle.model.specs.Run.{Event, reading, OfBytes, after, outcomes}
+use Rattle.state.specs.Reading.{brief}
 use Rattle.state.specs.Sound.{Typed, sound?}
 use Rattle.state.specs.State.{emptyWitness, modelOf, stored}
 use Rattle.state.specs.declared.Witness.{Witness}
-use Rattle.reader.specs.Many.{rowsUsed, endedBy, Many}
+use Rattle.reader.specs.Entries.{entries}
+use Rattle.reader.specs.Many.{spent, endedBy, Many, nonePassed}
 use Rattle.witness.specs.Calls.{eventCall, writeCall, writeBuffer}
 use Rattle.witness.specs.Readings.{manyCall}
-use Rattle.feeding.specs.Feed.{Paused, wants, full, outOfNumbers, ended, refusedBy, Feeding, pausedAt, lineRoom, lastNumber, openCall, feedCall, endCall}
+use Rattle.feeding.specs.Feed.{Paused, wants, full, outOfNumbers, ended, refusedBy, Feeding, pausedAt}
+use Rattle.feeding.specs.Feed.{lineRoom, recordRoom, lastNumber, openCall, feedCall, endCall}
 use Rattle.pieces.specs.Pieces.{Piece}
 use Rattle.guarantee.specs.Demand3.{witnessAfter, toldOf, Guarantee}
 use Rattle.guarantee.specs.LogRead.{replayed}
@@ -44,22 +48,32 @@ pub data Whole : ℕ → List ℕ → Type 0 where
 
 -- ---- `read_many`
 
--- `m` is what the call gives, with n rows lent: the run over the records that it passed, what each of them told, the offset
--- behind them, and why there are no more. The rows lent get what was told (IsBatch in crate reader).
-pub record ManyRun (n : ℕ) (w : Witness) (log : List ℕ) (at : ℕ) (m : Many) : Type 0 where
+-- the record at which reading on ended cannot be passed, though more could be read and told
+pub record Stopped (n room : ℕ) (log : List ℕ) (m : Many) : Type 0 where
+  pub may : length (m .passed) < n
+  pub free : length (entries (m .passed)) + memberLimit ≤ room
+  pub none : recordLength (drop (m .next) log) ≡ 0
+  pub why : m .end ≡ endedBy (brief (eventCall (m .witness) (reading (drop (m .next) log)) .told))
+
+-- `m` is what the call gives, with a limit of n records and room for so many entries: the run over the records that it
+-- passed, what each of them told, the offset behind them, and why there are no more. The bytes lent get what was told
+-- (IsBatch in crate reader).
+pub record ManyRun (n room : ℕ) (w : Witness) (log : List ℕ) (at : ℕ) (m : Many) : Type 0 where
   pub whole : Whole (length (m .passed)) (drop at log)
   pub each : m .passed ≡ toldOf w (firstRecords (length (m .passed)) (drop at log))
   pub witness : m .witness ≡ witnessAfter w (firstRecords (length (m .passed)) (drop at log))
   pub left : drop (m .next) log ≡ behindRecords (length (m .passed)) (drop at log)
   pub offset : m .next + length (drop (m .next) log) ≡ at + length (drop at log)
   pub at-most : length (m .passed) ≤ n
-  pub rows-used : length (m .passed) ≡ n → m .end ≡ rowsUsed
-  pub ended-early : length (m .passed) < n
-      → (recordLength (drop (m .next) log) ≡ 0)
-      × (m .end ≡ endedBy (eventCall (m .witness) (reading (drop (m .next) log)) .told))
+  pub within : length (entries (m .passed)) ≤ room
+  pub ends :
+      ((m .end ≡ spent) × ((length (m .passed) ≡ n) ⊎ (room < length (entries (m .passed)) + memberLimit)))
+      ⊎ Stopped n room log m
 
 abbrev pub ManyIsRun : Type 0
-ManyIsRun = (w : Witness) → Typed w → sound? w ≡ true → (n : ℕ) (log : List ℕ) → AreBytes log → (at : ℕ) → ManyRun n w log at (manyCall n w log at)
+ManyIsRun =
+    (w : Witness) → Typed w → sound? w ≡ true → (n room : ℕ) (log : List ℕ) → AreBytes log → (at : ℕ)
+    → ManyRun n room w log at (manyCall n room w log at)
 
 -- ---- `feed`
 
@@ -71,11 +85,12 @@ stopLine outOfNumbers k = []
 stopLine ended k = stoppedLine 4 k
 stopLine (refusedBy n) k = []
 
--- why `feed` paused, with so much room, where `rest` stands behind the records that it passed: nothing is left or a record is
--- cut; no line fits behind the text; no number is left; or the kind is unknown. Row 40 does not apply.
+-- why `feed` paused, with so much room, where `rest` stands behind the records that it passed: nothing is left or a
+-- record is cut; the lines of a bundle might not fit behind the text; no number is left; or the kind is unknown. Row 40
+-- does not apply.
 abbrev pub Cause : Paused → ℕ → Feeding → List ℕ → Type 0
 Cause wants room f rest = (rest ≡ []) ⊎ (eventCall (f .witness) (reading rest) .told ≡ refused 5)
-Cause full room f rest = room < length (f .text) + lineRoom
+Cause full room f rest = room < length (f .text) + recordRoom
 Cause outOfNumbers room f rest = f .records ≡ lastNumber
 Cause ended room f rest = eventCall (f .witness) (reading rest) .told ≡ refused 4
 Cause (refusedBy n) room f rest = ⊥
@@ -104,8 +119,8 @@ pub record WitnessKept (w : Witness) : Type 0 where
   pub close-keeps : (room k left : ℕ) → endCall room w k left .witness ≡ w
   pub open-keeps : (last : Bool) (room : ℕ) (log : List ℕ) (n : ℕ) → header log ≡ refused n → openCall last room w log .witness ≡ w
   pub feed-unsound : sound? w ≡ false → (room k : ℕ) (s : List ℕ) → feedCall room w k s ≡ pausedAt [] (refusedBy 40) w k
-  pub many-unsound : sound? w ≡ false → (n : ℕ) (log : List ℕ) (at : ℕ)
-      → manyCall n w log at ≡ record { passed = []; end = endedBy (refused 40); next = at; witness = w }
+  pub many-unsound : sound? w ≡ false → (n room : ℕ) (log : List ℕ) (at : ℕ)
+      → manyCall n room w log at ≡ nonePassed (endedBy (refused 40)) w at
   -- 40 comes before 60, and leaves the buffer too
   pub write-unsound : sound? w ≡ false → (text : Model → List ℕ) (buffer : List ℕ)
       → (writeCall text w buffer ≡ refused 40) × (writeBuffer text w buffer ≡ buffer)

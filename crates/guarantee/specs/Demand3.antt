@@ -31,7 +31,8 @@ toldOf w (e ∷ es) = eventCall w e .told ∷ toldOf (stored w (eventCall w e)) 
 -- `w` is the witness and `b` the model after the run, as Demand3 below, LogIsRun in LogRead.antt, and PiecesRun and RunOn in
 -- CallsAreRuns.antt have them
 pub record Guarantee (name : List ℕ) (es : List Event) (w : Witness) (b : Model) : Type 0 where
-  -- "each record was taken, or refused with the same number"; 40 never occurs, as the book has no such row
+  -- "each record was taken, or refused with the same number", and of a bundle each of its votes; 40 never occurs, as
+  -- the book has no such row
   pub outcomes-agree : toldOf (emptyWitness name) es ≡ outcomes (start name) es
   -- the held lists, the standings, the support, the conflict answer, our list, the board paper and the
   -- checker: the fields of ByTheRules

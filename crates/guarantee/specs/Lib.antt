@@ -2,3 +2,4 @@ pub mod Demand3
 pub mod LogRead
 pub mod Demand2
 pub mod CallsAreRuns
+pub mod Bundles

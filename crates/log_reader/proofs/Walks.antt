@@ -11,9 +11,9 @@ use Rattle.reader.specs.Many.{readMany, IsBatch}
 use Rattle.reader.specs.declared.Batch.{Batch}
 use Rattle.log_reader.proofs.LogReader as T
 
--- so many records as there are rows: the rows before and after
-abbrev pub Found : Witness → List ℕ → ℕ → List ℕ → Batch → List ℕ → Type 0
-Found w log at before b after = IsBatch (readMany (length before) w log at) before b after
+-- at most so many records: the entries before and after
+abbrev pub Found : ℕ → Witness → List ℕ → ℕ → List ℕ → Batch → List ℕ → Type 0
+Found limit w log at before b after = IsBatch (readMany limit (length before) w log at) before b after
 
 -- 'a, the second of `read_on`'s lifetimes, and the reader's type at it
 abbrev pub α : Lft → NamedLft

@@ -2,6 +2,7 @@
 // over it. The work is `reader::read_many`'s, which takes a plain log and an offset. A function that takes, makes or
 // holds a reader is proved by hand; `read_from` has plain parameters, so that whoever calls it names no reader and
 // needs no such proof.
+use model::MAX_MEMBERS;
 use reader::Batch;
 use state::Reading;
 use state::Witness;
@@ -28,13 +29,14 @@ pub fn new<'a>(log: &'a [u8], at: usize) -> LogReader<'a>
     LogReader { log, at }
 }
 
-// The records from the reader's offset on, into a sound witness, as many as there are rows lent. The reader is lent
-// too, and is moved on to the offset reached: the next call with it starts where this one ended.
-pub fn read_on<'s, 'a>(r: &'s mut LogReader<'a>, w: Witness, rows: &mut [u8]) -> Batch
+// The records from the reader's offset on, into a sound witness, at most `limit`, while there is room for their
+// entries. The reader is lent too, and is moved on to the offset reached: the next call with it starts where this one
+// ended.
+pub fn read_on<'s, 'a>(r: &'s mut LogReader<'a>, w: Witness, limit: u64, rows: &mut [u8]) -> Batch
     requires { ⌜ Sound w ⌝ }
     ensures { λ b. ⌜
         IsBatch
-        (readMany (length (now (rows .entry))) w (now (now (r .entry) .log)) (now (r .entry) .at))
+        (readMany limit (length (now (rows .entry))) w (now (now (r .entry) .log)) (now (r .entry) .at))
         (now (rows .entry))
         b
         (now (rows .exit))
@@ -43,29 +45,29 @@ pub fn read_on<'s, 'a>(r: &'s mut LogReader<'a>, w: Witness, rows: &mut [u8]) ->
         ⌝ }
 {
     let at = r.at;
-    let batch = reader::read_many(w, r.log, at, rows);
+    let batch = reader::read_many(w, r.log, at, limit, rows);
     r.at = batch.next;
     batch
 }
 
 // The same from an offset of a log: a reader is made there, and read on with. It is not handed back, since the batch
 // has the offset reached.
-pub fn read_from(w: Witness, log: &[u8], at: usize, rows: &mut [u8]) -> Batch
+pub fn read_from(w: Witness, log: &[u8], at: usize, limit: u64, rows: &mut [u8]) -> Batch
     requires { ⌜ Sound w ⌝ }
     ensures { λ b. ⌜
         IsBatch
-        (readMany (length (now (rows .entry))) w (now (log .entry)) at)
+        (readMany limit (length (now (rows .entry))) w (now (log .entry)) at)
         (now (rows .entry))
         b
         (now (rows .exit))
         ⌝ }
 {
     let mut r = new(log, at);
-    read_on(&mut r, w, rows)
+    read_on(&mut r, w, limit, rows)
 }
 
-// The record at `from`, into a sound witness: reading on where one row is lent. Where the row was not used, the outcome
-// is what ended the reading.
+// The record at `from`, into a sound witness: reading on where one record may be passed. Where none was, the outcome is
+// what ended the reading.
 pub fn read_record(w: Witness, log: &[u8], from: usize) -> Reading
     requires { ⌜ Sound w ⌝ }
     ensures { λ r. ⌜
@@ -75,13 +77,14 @@ pub fn read_record(w: Witness, log: &[u8], from: usize) -> Reading
         r
         ⌝ }
 {
-    let mut row = [0u8; 1];
-    let r = read_from(w, log, from, &mut row);
+    let mut rows = [0u8; MAX_MEMBERS];
+    let r = read_from(w, log, from, 1, &mut rows);
     let witness = r.witness;
     let end = r.end;
     let last = r.last;
     Reading {
         outcome: reader::ended_by(end, last),
+        rows: reader::last_votes(&rows, r.used, last),
         next: r.next,
         witness,
     }

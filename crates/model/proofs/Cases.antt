@@ -12,7 +12,7 @@ use Rattle.model.specs.Buffer.{writeText, bufferAfter}
 use Rattle.model.specs.Bytes.{beOf, beBytes, field, ascii}
 use Rattle.model.specs.Checker.{check, checkFrom, entries, ownVote?}
 use Rattle.model.specs.Change.{addMember, addCheckpoint, addVote, append, appendAll, single, nothingLeft, taken}
-use Rattle.model.specs.Decide.{decide, decideRecord, decideMember, decideCheckpoint, voteBetween, voteOf, room}
+use Rattle.model.specs.Decide.{decide, decideRecord, decideMember, decideCheckpoint, linkBetween, linkOf, cast, voteOf, room}
 use Rattle.model.specs.Decide.{decideVote, heightsAgree, bondOutOfRange, membersFixed}
 use Rattle.model.specs.Evidence.{ourList, charges, chargeOf, conduct, conductFrom, broken?, violator?, byId}
 use Rattle.model.specs.Evidence.{insertById, listBytes, entryBytes, bondOf}
@@ -223,6 +223,7 @@ pub record RowCases : Type 0 where
   row-4-ends : report (headerBytes ++ member 1 1 ++ 9 ∷ member 1 0) ≡ line "stopped 4 record 1"
   row-4-zero : decide session (0 ∷ []) ≡ record { told = refused 4; changes = [] }
   row-4-four : decide session (4 ∷ replicate 100 0) ≡ single (refused 4)
+  row-4-six : decide session (6 ∷ replicate 100 0) ≡ single (refused 4)
   row-5 : report (headerBytes ++ 3 ∷ replicate 10 0) ≡ line "stopped 5 record 0"
   row-5-kind : decide session (1 ∷ []) ≡ single (refused 5)
   row-5-member : decide session (take 10 (member 9 1)) ≡ single (refused 5)
@@ -347,7 +348,7 @@ unfolding
     row any anyBelow allBelow pairBelow firstIndex tabulate concatBelow sameBytes beOf beBytes field ascii start append
     appendAll single memberAt checkpointAt voteAt memberIndex placeOf voteHeld
     child? reached? ancestor? conflict? header kindOf sizeOf decodeAs recordSize recordLength decode decide decideRecord
-    decideMember decideCheckpoint voteBetween voteOf room decideVote andThen heightsAgree bondOutOfRange
+    decideMember decideCheckpoint linkBetween linkOf cast voteOf room decideVote andThen heightsAgree bondOutOfRange
     membersFixed idHeld nameHeld decideEvent after outcomes readings count sum supports quorum carries support supportAt
     link? justifiedMarks justified? sealed? final? status statusAt writeText bufferAfter conflicting?
     breaks? conductFrom conduct broken? violator? insertById byId digits decimal newline statusText checkpointText
@@ -396,6 +397,7 @@ cases = (
     row-4-ends = refl;
     row-4-zero = refl;
     row-4-four = refl;
+    row-4-six = refl;
     row-5 = refl;
     row-5-kind = refl;
     row-5-member = refl;

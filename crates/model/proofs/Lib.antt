@@ -21,4 +21,6 @@ pub mod Sound
 pub mod Run
 pub mod Readings
 pub mod Refused
+pub mod Bundle
 pub mod Cases
+pub mod BundleCases

@@ -10,7 +10,7 @@ use lib.Seq.{drop-drop}
 use lib.Dec.{eqb}
 use Rattle.model.specs.Answer.{Answer, refused}
 use Rattle.model.specs.Bytes.{AreBytes}
-use Rattle.model.specs.Change.{Change, single, decided}
+use Rattle.model.specs.Change.{Change, Decision, single, decided, together, whole}
 use Rattle.model.specs.Decide.{decideRecord, decide}
 use Rattle.model.specs.Lists.{All, none, each}
 use Rattle.model.specs.Log.{Record, recordLength}
@@ -20,7 +20,7 @@ use Rattle.model.specs.Run.{Event, reading, decideEvent, outcomes, OfByt
 use Rattle.model.proofs.Bytes.{drop-bytes}
 use Rattle.model.proofs.Lists.{clash, all-map}
 use Rattle.model.proofs.Log.{decode-elim}
-use Rattle.model.proofs.Rows.{member-elim, checkpoint-elim, vote-elim}
+use Rattle.model.proofs.Rows.{member-elim, checkpoint-elim, vote-elim, bundle-elim}
 
 -- ---- the bound
 
@@ -81,9 +81,12 @@ module _ (m : Model) where
   abbrev GoesOn : Answer Change → Type 0
   GoesOn a = stops? (single a .told) ≡ false
 
+  abbrev WholeGoesOn : Answer (List Decision) → Type 0
+  WholeGoesOn a = stops? (whole a .told) ≡ false
+
   -- a record that is passed over does not stop the reading
   pub whole-goes-on : (s : List ℕ) → eqb (recordLength s) 0 ≡ false → stops? (decide m s .told) ≡ false
-  unfolding decide decideRecord single stops?
+  unfolding decide decideRecord single stops? together whole
   whole-goes-on s =
       decode-elim (λ (r : Record) (n : ℕ). eqb n 0 ≡ false → stops? (decideRecord m r .told) ≡ false) s
       (record {
@@ -94,6 +97,7 @@ module _ (m : Model) where
         checkpoint = λ _ _. checkpoint-elim m GoesOn _ _ (each refl (each refl (each refl none))) (λ _. refl);
         vote = λ _ _.
             vote-elim m GoesOn _ _ _ _ _ (each refl (each refl (each refl (each refl (each refl (each refl (each refl none))))))) (λ _ _. refl);
+        bundle = λ _ _. bundle-elim m WholeGoesOn _ _ _ _ _ (each refl (each refl none)) (λ _. refl);
       })
 
 -- the outcomes before the last do not stop

@@ -1,5 +1,6 @@
 -- Two refusals with one number are one: a number gives its refusal back.
-use Prim.Native.Nat.{ℕ}
+use Prim.Native.Nat.{ℕ, _<_}
+use native.Mathlib.Omega.{arith}
 use mathlib.Core.Path.{_≡_, refl, sym, ap, _∙_}
 use mathlib.Core.List.{List, [], _∷_}
 use lib.ListN.{getD}
@@ -12,6 +13,7 @@ use Rattle.model.specs.declared.Refusal.the-variants.{BondOutOfRange, Id
 use Rattle.model.specs.declared.Refusal.the-variants.{VoterNotHeld, SourceNotHeld, TargetNotHeld, WrongHeight, NotAncestor, VoteHeld}
 use Rattle.model.specs.declared.Refusal.the-variants.{VotesFull, UnsoundState, PlaceNotHeld, ListLength, ListMark, ListVersion}
 use Rattle.model.specs.declared.Refusal.the-variants.{IdNotRising, ChargedNotHeld, NotOwnVote, NotEarlier, NoViolation, BufferTooShort}
+use Rattle.model.specs.declared.Refusal.the-variants.{BitWithoutMember, NoBitSet}
 
 -- the table's cases in its order
 unfoldable pub refusals : List Refusal
@@ -21,7 +23,7 @@ refusals =
     ∷ VoterNotHeld ∷ SourceNotHeld ∷ TargetNotHeld ∷ WrongHeight ∷ NotAncestor ∷ VoteHeld
     ∷ VotesFull ∷ UnsoundState ∷ PlaceNotHeld ∷ ListLength ∷ ListMark ∷ ListVersion
     ∷ IdNotRising ∷ ChargedNotHeld ∷ NotOwnVote ∷ NotEarlier ∷ NoViolation ∷ BufferTooShort
-    ∷ []
+    ∷ BitWithoutMember ∷ NoBitSet ∷ []
 
 -- the refusal with a number; the first of the table where no refusal has it
 unfoldable pub refusalOf : ℕ → Refusal
@@ -59,6 +61,43 @@ refusal-back NotOwnVote = refl
 refusal-back NotEarlier = refl
 refusal-back NoViolation = refl
 refusal-back BufferTooShort = refl
+refusal-back BitWithoutMember = refl
+refusal-back NoBitSet = refl
 
 pub refusal-number-injective : (a b : Refusal) → refusalNumber a ≡ refusalNumber b → a ≡ b
 refusal-number-injective a b e = sym (refusal-back a) ∙ ap refusalOf e ∙ refusal-back b
+
+-- a row's number is below 128, and is not 0
+pub refusal-small : (r : Refusal) → (0 < refusalNumber r) × (refusalNumber r < 128)
+refusal-small LogTooShort = (omega arith, omega arith)
+refusal-small LogMark = (omega arith, omega arith)
+refusal-small LogVersion = (omega arith, omega arith)
+refusal-small UnknownKind = (omega arith, omega arith)
+refusal-small CutRecord = (omega arith, omega arith)
+refusal-small MembersFixed = (omega arith, omega arith)
+refusal-small BondOutOfRange = (omega arith, omega arith)
+refusal-small IdHeld = (omega arith, omega arith)
+refusal-small MembersFull = (omega arith, omega arith)
+refusal-small NameHeld = (omega arith, omega arith)
+refusal-small ParentNotHeld = (omega arith, omega arith)
+refusal-small CheckpointsFull = (omega arith, omega arith)
+refusal-small VoterNotHeld = (omega arith, omega arith)
+refusal-small SourceNotHeld = (omega arith, omega arith)
+refusal-small TargetNotHeld = (omega arith, omega arith)
+refusal-small WrongHeight = (omega arith, omega arith)
+refusal-small NotAncestor = (omega arith, omega arith)
+refusal-small VoteHeld = (omega arith, omega arith)
+refusal-small VotesFull = (omega arith, omega arith)
+refusal-small UnsoundState = (omega arith, omega arith)
+refusal-small PlaceNotHeld = (omega arith, omega arith)
+refusal-small ListLength = (omega arith, omega arith)
+refusal-small ListMark = (omega arith, omega arith)
+refusal-small ListVersion = (omega arith, omega arith)
+refusal-small IdNotRising = (omega arith, omega arith)
+refusal-small ChargedNotHeld = (omega arith, omega arith)
+refusal-small NotOwnVote = (omega arith, omega arith)
+refusal-small NotEarlier = (omega arith, omega arith)
+refusal-small NoViolation = (omega arith, omega arith)
+refusal-small BufferTooShort = (omega arith, omega arith)
+refusal-small BitWithoutMember = (omega arith, omega arith)
+refusal-small NoBitSet = (omega arith, omega arith)

@@ -7,11 +7,12 @@ use mathlib.Core.Bool.{false, not}
 use lib.ListN.{length}
 use lib.Dec.{leb}
 use Rattle.model.specs.Answer.{Answer, refused, answer, andThen}
-use Rattle.model.specs.Change.{Change, addMember, addCheckpoint, addVote}
-use Rattle.model.specs.Decide.{membersFixed, bondOutOfRange, decideMember, newCheckpoint, decideCheckpoint, heightsAgree, newVote, voteBetween, voteOf, room, decideVote}
+use Rattle.model.specs.Change.{Change, addMember, addCheckpoint, addVote, Decision}
+use Rattle.model.specs.Decide.{membersFixed, bondOutOfRange, decideMember, newCheckpoint, decideCheckpoint, heightsAgree, newLink, linkBetween, linkOf, cast, voteOf, room, decideVote}
+use Rattle.model.specs.Decide.{decideEach, bundleIds, bitWithoutMember, noBitSet, decideBundle}
 use Rattle.model.specs.Limits.{memberLimit, checkpointLimit, voteLimit}
 use Rattle.model.specs.Lists.{All, none, each}
-use Rattle.model.specs.Model.{Model, Member, Vote, placeOf, idHeld, nameHeld, voteHeld}
+use Rattle.model.specs.Model.{Model, Member, Vote, Link, placeOf, idHeld, nameHeld, voteFor, voteHeld}
 use Rattle.model.specs.Tree.{ancestor?}
 use Rattle.model.proofs.Answer.{row-elim}
 
@@ -23,6 +24,9 @@ checkpointRows = 20 ∷ 21 ∷ 22 ∷ []
 
 abbrev pub voteRows : List ℕ
 voteRows = 30 ∷ 31 ∷ 32 ∷ 33 ∷ 34 ∷ 35 ∷ 36 ∷ []
+
+abbrev pub bundleRows : List ℕ
+bundleRows = 61 ∷ 62 ∷ []
 
 -- a member's record that passes its rows
 pub record MemberPasses (m : Model) (x : Member) : Type 0 where
@@ -37,14 +41,33 @@ pub record CheckpointPasses (m : Model) (name parent : List ℕ) : Type 0 where
   pub held : not (nameHeld m parent) ≡ false
   pub fits : leb checkpointLimit (length (m .checkpoints)) ≡ false
 
+-- the vote that a record gives
+abbrev pub newVote : Model → ℕ → List ℕ → List ℕ → Vote
+newVote m id source target = voteFor id (placeOf (m .checkpoints) source) (placeOf (m .checkpoints) target)
+
 -- a vote's, by rows 30 to 35
 pub record VotePasses (m : Model) (id : ℕ) (source target : List ℕ) (sourceHeight targetHeight : ℕ) : Type 0 where
   pub member : not (idHeld m id) ≡ false
   pub from : not (nameHeld m source) ≡ false
   pub to : not (nameHeld m target) ≡ false
-  pub heights : not (heightsAgree m (newVote m id source target) sourceHeight targetHeight) ≡ false
+  pub heights : not (heightsAgree m (newLink m source target) sourceHeight targetHeight) ≡ false
   pub climbs : not (ancestor? (m .checkpoints) (placeOf (m .checkpoints) source) (placeOf (m .checkpoints) target)) ≡ false
   pub fresh : voteHeld (m .votes) (newVote m id source target) ≡ false
+
+-- a bundle's, as a whole
+pub record BundlePasses (m : Model) (bits : List ℕ) : Type 0 where
+  pub members : bitWithoutMember m bits ≡ false
+  pub some : noBitSet bits ≡ false
+
+pub bundle-elim : (m : Model) (P : Answer (List Decision) → Type 0) (bits source target : List ℕ) (sourceHeight targetHeight : ℕ)
+    → All (λ n. P (refused n)) bundleRows
+    → (BundlePasses m bits → P (answer (decideEach m (bundleIds m bits) source target sourceHeight targetHeight)))
+    → P (decideBundle m bits source target sourceHeight targetHeight)
+unfolding decideBundle
+bundle-elim m P bits source target h k (each r61 (each r62 none)) votes =
+    row-elim P 61 _ _ r61 λ members.
+    row-elim P 62 _ _ r62 λ some.
+    votes (record { members = members; some = some })
 
 module _ (m : Model) (P : Answer Change → Type 0) where
   pub member-elim : (x : Member) → All (λ n. P (refused n)) memberRows → (MemberPasses m x → P (answer (addMember x))) → P (decideMember m x)
@@ -68,14 +91,15 @@ module _ (m : Model) (P : Answer Change → Type 0) where
   pub vote-elim : (id : ℕ) (source target : List ℕ) (sourceHeight targetHeight : ℕ) → All (λ n. P (refused n)) voteRows
       → (VotePasses m id source target sourceHeight targetHeight → leb voteLimit (length (m .votes)) ≡ false → P (answer (addVote (newVote m id source target))))
       → P (decideVote m id source target sourceHeight targetHeight)
-  unfolding decideVote voteOf voteBetween andThen room
+  unfolding decideVote voteOf linkOf linkBetween cast andThen room
   vote-elim id source target h k (each r30 (each r31 (each r32 (each r33 (each r34 (each r35 (each r36 none))))))) taken =
       let Q : Answer Vote → Type 0 = λ a. P (andThen a (room m)) in
+      let L : Answer Link → Type 0 = λ a. Q (andThen a (cast m id)) in
       row-elim Q 30 _ _ r30 λ member.
-      row-elim Q 31 _ _ r31 λ from.
-      row-elim Q 32 _ _ r32 λ to.
-      row-elim Q 33 (not (heightsAgree m (newVote m id source target) h k)) _ r33 λ heights.
-      row-elim Q 34 _ _ r34 λ climbs.
+      row-elim L 31 _ _ r31 λ from.
+      row-elim L 32 _ _ r32 λ to.
+      row-elim L 33 (not (heightsAgree m (newLink m source target) h k)) _ r33 λ heights.
+      row-elim L 34 _ _ r34 λ climbs.
       row-elim Q 35 _ _ r35 λ fresh.
       row-elim P 36 _ _ r36 λ fits.
       taken (record { member = member; from = from; to = to; heights = heights; climbs = climbs; fresh = fresh }) fits

@@ -1,16 +1,17 @@
 -- What every run keeps: the model stays well formed, whatever is read.
 use Prim.Native.Nat.{ℕ, zero, suc, _+_, _<_, _≤_, _^_}
 use native.Mathlib.Omega.{arith}
-use mathlib.Core.Path.{_≡_, refl, sym, ap, _∙_}
-use mathlib.Core.List.{List, [], _∷_, _++_}
-use mathlib.Core.Bool.{Bool, true, false, _||_, not}
+use mathlib.Core.Path.{_≡_, refl, sym, ap, _∙_, subst}
+use mathlib.Core.List.{List, [], _∷_, _++_, flatMap}
+use mathlib.Core.Bool.{Bool, true, false, _||_}
 use borrow.Author.Tests.{eq-eqb, ltb-true, ltb-false, leb-false, lt-ltb, not-false}
 use lib.ListN.{length, getD}
 use lib.Dec.{eqb, ltb}
 use Rattle.model.specs.Answer.{Answer, refused, answer}
 use Rattle.model.specs.Bytes.{AreBytes}
-use Rattle.model.specs.Change.{Change, addVote, append, appendAll, single, decided}
-use Rattle.model.specs.Decide.{membersFixed, bondOutOfRange, decideMember, newCheckpoint, decideCheckpoint, newVote, decideVote, decideRecord, decide}
+use Rattle.model.specs.Change.{Change, addVote, append, appendAll, Decision, single, decided, together, whole}
+use Rattle.model.specs.Decide.{membersFixed, bondOutOfRange, decideMember, newCheckpoint, decideCheckpoint, decideVote}
+use Rattle.model.specs.Decide.{decideEach, decideRecord, decide}
 use Rattle.model.specs.Limits.{memberLimit, checkpointLimit, voteLimit, bondLimit}
 use Rattle.model.specs.Lists.{sameBytes, All, none, each}
 use Rattle.model.specs.Log.{Record}
@@ -23,7 +24,9 @@ use Rattle.model.proofs.Bytes.{field-below}
 use Rattle.model.proofs.Growth.{grown-length, grown-old, grown-new, grown-all, grown-pairs}
 use Rattle.model.proofs.Lists.{all-of, any-first, first-passes, none-any, or-left, or-right, clash, not-so, same-eq, eq-same}
 use Rattle.model.proofs.Log.{decode-elim}
-use Rattle.model.proofs.Rows.{memberRows, checkpointRows, voteRows, member-elim, checkpoint-elim, vote-elim}
+use Rattle.model.proofs.Fits.{append-both}
+use Rattle.model.proofs.Rows.{memberRows, checkpointRows, voteRows, bundleRows, member-elim, checkpoint-elim}
+use Rattle.model.proofs.Rows.{newVote, vote-elim, bundle-elim}
 use Rattle.model.proofs.Tree.{ancestor-true}
 
 or-false-left : (a b : Bool) → (a || b) ≡ false → a ≡ false
@@ -112,7 +115,7 @@ module _ (cs : List Checkpoint) (c : Checkpoint) where
 
 module _ (m : Model) (good : WellFormed m) where
   -- the model after an answer is well formed
-  abbrev Kept : Answer Change → Type 0
+  abbrev pub Kept : Answer Change → Type 0
   Kept a = WellFormed (decided m (single a))
 
   stays : (n : ℕ) → Kept (refused n)
@@ -170,7 +173,7 @@ module _ (m : Model) (good : WellFormed m) where
         distinct = grown-pairs noVote (m .votes) v (λ a b. sameVote a b ≡ false) (good .distinct) (none-any (λ w. sameVote w v) noVote (m .votes) fresh);
       }
 
-  vote-kept : (id : ℕ) (source target : List ℕ) (sourceHeight targetHeight : ℕ) → Kept (decideVote m id source target sourceHeight targetHeight)
+  pub vote-kept : (id : ℕ) (source target : List ℕ) (sourceHeight targetHeight : ℕ) → Kept (decideVote m id source target sourceHeight targetHeight)
   vote-kept id source target sourceHeight targetHeight =
       let v = newVote m id source target in
       vote-elim m Kept id source target sourceHeight targetHeight (all-of stays voteRows) λ p fits.
@@ -184,18 +187,37 @@ module _ (m : Model) (good : WellFormed m) where
       (p .fresh)
       (leb-false voteLimit (length (m .votes)) fits)
 
+-- a bundle's single votes
+each-kept : (m : Model) → WellFormed m → (ids source target : List ℕ) (h k : ℕ)
+    → WellFormed (decided m (together (decideEach m ids source target h k)))
+unfolding decideEach together appendAll flatMap
+each-kept m good [] source target h k = good
+each-kept m good (id ∷ ids) source target h k =
+    let d = single (decideVote m id source target h k) in
+    subst WellFormed (sym (append-both m (d .changes) (together (decideEach (decided m d) ids source target h k) .changes)))
+    (each-kept (decided m d) (vote-kept m good id source target h k) ids source target h k)
+
+module _ (m : Model) (good : WellFormed m) where
+  abbrev WholeKept : Answer (List Decision) → Type 0
+  WholeKept a = WellFormed (decided m (whole a))
+
+  whole-stays : (n : ℕ) → WholeKept (refused n)
+  unfolding whole
+  whole-stays n = stays m good n
+
   -- a field of two bytes is of 16 bits
   pub read-kept : (s : List ℕ) → AreBytes s → WellFormed (decided m (decide m s))
-  unfolding decide decideRecord single appendAll
+  unfolding decide decideRecord single appendAll whole
   read-kept s bytes =
       decode-elim (λ (r : Record) (n : ℕ). WellFormed (decided m (decideRecord m r))) s
       (record {
         nothing = good;
         unknown = good;
         cut = good;
-        member = λ _. member-kept _ (field-below 1 2 s bytes);
-        checkpoint = λ _. checkpoint-kept _ _;
-        vote = λ _. vote-kept _ _ _ _ _;
+        member = λ _. member-kept m good _ (field-below 1 2 s bytes);
+        checkpoint = λ _. checkpoint-kept m good _ _;
+        vote = λ _. vote-kept m good _ _ _ _ _;
+        bundle = λ _. bundle-elim m WholeKept _ _ _ _ _ (all-of whole-stays bundleRows) (λ _. each-kept m good _ _ _ _ _);
       })
 
 -- ---- every run

@@ -1,5 +1,5 @@
 -- What an event comes to: what is told of it, and the changes that it makes, in order.
-use mathlib.Core.List.{List, [], _∷_, _++_}
+use mathlib.Core.List.{List, [], _∷_, _++_, map, flatMap}
 use Rattle.model.specs.Answer.{Answer, refused, answer}
 use Rattle.model.specs.Model.{Model, Member, Checkpoint, Vote, withMembers, withCheckpoints, withVotes}
 
@@ -19,10 +19,11 @@ unfoldable pub appendAll : Model → List Change → Model
 appendAll m [] = m
 appendAll m (c ∷ cs) = appendAll (append m c) cs
 
--- what is told of an event that is not refused
+-- what is told of an event that is not refused; of a bundle, for each of its single votes, taken or its refusal
 pub data Told : Type 0 where
   nothingLeft : Told
   taken : Told
+  bundled : List (Answer (Unit {0})) → Told
 
 -- what is decided on an event
 pub record Decision : Type 0 where
@@ -33,6 +34,24 @@ pub record Decision : Type 0 where
 unfoldable pub single : Answer Change → Decision
 single (refused n) = record { told = refused n; changes = [] }
 single (answer c) = record { told = answer taken; changes = c ∷ [] }
+
+-- of a single vote: taken, or its refusal
+unfoldable pub oneVote : Answer Told → Answer (Unit {0})
+oneVote (refused n) = refused n
+oneVote (answer t) = answer tt
+
+-- several decisions as one: each is told, in order, and their changes follow one another
+unfoldable pub together : List Decision → Decision
+together ds =
+    record {
+      told = answer (bundled (map (λ (d : Decision). oneVote (d .told)) ds));
+      changes = flatMap (λ (d : Decision). d .changes) ds;
+    }
+
+-- a bundle: refused whole, or its single votes
+unfoldable pub whole : Answer (List Decision) → Decision
+whole (refused n) = single (refused n)
+whole (answer ds) = together ds
 
 -- no record was left to read
 abbrev pub nothingRead : Decision

@@ -1,16 +1,22 @@
--- What is decided on the bytes from an offset on: rows 4 and 5, then those of the record's kind, in rising number. Rows
--- 1 to 3, and what makes a kind unknown or a record cut (4 and 5), are in Log.antt; row 40's condition in
--- WellFormed.antt, 41 in Support.antt and Finality.antt, 50 to 57 in Checker.antt, 60 in Buffer.antt.
+-- What is decided on the bytes from an offset on: rows 4 and 5, then those of the record's kind, in rising number; a
+-- bundle's own, 61 and 62, come before those of its votes. Rows 1 to 3, and what makes a kind unknown or a record cut
+-- (4 and 5), are in Log.antt; row 40's condition in WellFormed.antt, 41 in Support.antt and Finality.antt, 50 to 57 in
+-- Checker.antt, 60 in Buffer.antt.
 use Prim.Native.Nat.{ℕ, _+_}
-use mathlib.Core.List.{List}
+use mathlib.Core.List.{List, [], _∷_, map}
 use mathlib.Core.Bool.{Bool, _&&_, _||_, not}
 use lib.ListN.{length}
 use lib.Dec.{eqb, ltb, leb}
 use Rattle.model.specs.Answer.{Answer, refused, answer, row, andThen}
-use Rattle.model.specs.Change.{Change, addMember, addCheckpoint, addVote, Decision, single, nothingRead}
+use Rattle.model.specs.Bits.{setPlaces}
+use Rattle.model.specs.Change.{Change, addMember, addCheckpoint, addVote, Decision, single, decided, whole}
+use Rattle.model.specs.Change.{nothingRead}
 use Rattle.model.specs.Limits.{memberLimit, checkpointLimit, voteLimit, bondLimit}
-use Rattle.model.specs.Log.{Record, noRecord, unknownKind, cutRecord, memberRecord, checkpointRecord, voteRecord, decode}
-use Rattle.model.specs.Model.{Model, Member, Checkpoint, Vote, heightOf, placeOf, idHeld, nameHeld, voteFor, voteHeld}
+use Rattle.model.specs.Lists.{any}
+use Rattle.model.specs.Log.{Record, noRecord, unknownKind, cutRecord, memberRecord, checkpointRecord, voteRecord}
+use Rattle.model.specs.Log.{bundleRecord, decode}
+use Rattle.model.specs.Model.{Model, Member, Checkpoint, Vote, Link, link, memberAt, heightOf, placeOf, idHeld}
+use Rattle.model.specs.Model.{nameHeld, voteFor, voteHeld}
 use Rattle.model.specs.Tree.{ancestor?}
 
 -- row 10: after an accepted vote, or an accepted checkpoint other than the root
@@ -43,29 +49,37 @@ decideCheckpoint m name parent =
     (answer (addCheckpoint (newCheckpoint m name parent)))))
 
 -- the heights that a vote gives are the tree's
-unfoldable pub heightsAgree : Model → Vote → ℕ → ℕ → Bool
-heightsAgree m v sourceHeight targetHeight =
-    eqb sourceHeight (heightOf (m .checkpoints) (v .source)) && eqb targetHeight (heightOf (m .checkpoints) (v .target))
+unfoldable pub heightsAgree : Model → Link → ℕ → ℕ → Bool
+heightsAgree m l sourceHeight targetHeight =
+    eqb sourceHeight (heightOf (m .checkpoints) (l .source)) && eqb targetHeight (heightOf (m .checkpoints) (l .target))
 
--- rows 33 to 35, on a vote between held places
-unfoldable pub voteBetween : Model → Vote → ℕ → ℕ → Answer Vote
-voteBetween m v sourceHeight targetHeight =
-    row 33 (not (heightsAgree m v sourceHeight targetHeight))
-    (row 34 (not (ancestor? (m .checkpoints) (v .source) (v .target)))
-    (row 35 (voteHeld (m .votes) v)
-    (answer v)))
+-- rows 33 and 34, on a link between held places
+unfoldable pub linkBetween : Model → Link → ℕ → ℕ → Answer Link
+linkBetween m l sourceHeight targetHeight =
+    row 33 (not (heightsAgree m l sourceHeight targetHeight))
+    (row 34 (not (ancestor? (m .checkpoints) (l .source) (l .target)))
+    (answer l))
 
--- the vote that a record gives
-abbrev pub newVote : Model → ℕ → List ℕ → List ℕ → Vote
-newVote m id source target = voteFor id (placeOf (m .checkpoints) source) (placeOf (m .checkpoints) target)
+-- the link that a record's names give
+abbrev pub newLink : Model → List ℕ → List ℕ → Link
+newLink m source target = link (placeOf (m .checkpoints) source) (placeOf (m .checkpoints) target)
+
+-- rows 31 to 34, which ask nothing of the voter
+unfoldable pub linkOf : Model → List ℕ → List ℕ → ℕ → ℕ → Answer Link
+linkOf m source target sourceHeight targetHeight =
+    row 31 (not (nameHeld m source))
+    (row 32 (not (nameHeld m target))
+    (linkBetween m (newLink m source target) sourceHeight targetHeight))
+
+-- row 35, on a member's vote for a link
+unfoldable pub cast : Model → ℕ → Link → Answer Vote
+cast m id l = let v = voteFor id (l .source) (l .target) in row 35 (voteHeld (m .votes) v) (answer v)
 
 -- rows 30 to 35
 unfoldable pub voteOf : Model → ℕ → List ℕ → List ℕ → ℕ → ℕ → Answer Vote
 voteOf m id source target sourceHeight targetHeight =
     row 30 (not (idHeld m id))
-    (row 31 (not (nameHeld m source))
-    (row 32 (not (nameHeld m target))
-    (voteBetween m (newVote m id source target) sourceHeight targetHeight)))
+    (andThen (linkOf m source target sourceHeight targetHeight) (cast m id))
 
 -- row 36, on a vote that rows 30 to 35 pass
 unfoldable pub room : Model → Vote → Answer Change
@@ -75,6 +89,32 @@ unfoldable pub decideVote : Model → ℕ → List ℕ → List ℕ → ℕ → 
 decideVote m id source target sourceHeight targetHeight =
     andThen (voteOf m id source target sourceHeight targetHeight) (room m)
 
+-- the single votes of the members with these ids, each meeting what the last one left
+unfoldable pub decideEach : Model → List ℕ → List ℕ → List ℕ → ℕ → ℕ → List Decision
+decideEach m [] source target sourceHeight targetHeight = []
+decideEach m (id ∷ ids) source target sourceHeight targetHeight =
+    let d = single (decideVote m id source target sourceHeight targetHeight) in
+    d ∷ decideEach (decided m d) ids source target sourceHeight targetHeight
+
+-- the ids of the members whose bits are set, "in rising place"
+unfoldable pub bundleIds : Model → List ℕ → List ℕ
+bundleIds m bits = map (λ p. memberAt (m .members) p .id) (setPlaces bits)
+
+-- row 61: "a bit set where no member stands"
+unfoldable pub bitWithoutMember : Model → List ℕ → Bool
+bitWithoutMember m bits = any (λ p. leb (length (m .members)) p) (setPlaces bits)
+
+-- row 62: "no bit set"
+unfoldable pub noBitSet : List ℕ → Bool
+noBitSet bits = eqb (length (setPlaces bits)) 0
+
+-- rows 61 and 62: "either refuses the whole bundle"
+unfoldable pub decideBundle : Model → List ℕ → List ℕ → List ℕ → ℕ → ℕ → Answer (List Decision)
+decideBundle m bits source target sourceHeight targetHeight =
+    row 61 (bitWithoutMember m bits)
+    (row 62 (noBitSet bits)
+    (answer (decideEach m (bundleIds m bits) source target sourceHeight targetHeight)))
+
 unfoldable pub decideRecord : Model → Record → Decision
 decideRecord m noRecord = nothingRead
 decideRecord m unknownKind = single (refused 4)
@@ -83,6 +123,8 @@ decideRecord m (memberRecord id bond) = single (decideMember m (record { id = id
 decideRecord m (checkpointRecord name parent) = single (decideCheckpoint m name parent)
 decideRecord m (voteRecord id source target sourceHeight targetHeight) =
     single (decideVote m id source target sourceHeight targetHeight)
+decideRecord m (bundleRecord bits source target sourceHeight targetHeight) =
+    whole (decideBundle m bits source target sourceHeight targetHeight)
 
 unfoldable pub decide : Model → List ℕ → Decision
 decide m s = decideRecord m (decode s)

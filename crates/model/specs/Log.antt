@@ -1,4 +1,4 @@
--- The log: its header and its three kinds of records. Document 01, "The log".
+-- The log: its header and its four kinds of records. Document 01, "The log"; change request K3 for the bundle.
 use Prim.Native.Nat.{ℕ}
 use mathlib.Core.List.{List, [], _∷_}
 use mathlib.Core.Bool.{cond, not}
@@ -24,22 +24,29 @@ pub data Record : Type 0 where
   memberRecord : (id bond : ℕ) → Record
   checkpointRecord : (name parent : List ℕ) → Record
   voteRecord : (id : ℕ) (source target : List ℕ) (sourceHeight targetHeight : ℕ) → Record
+  bundleRecord : (bits source target : List ℕ) (sourceHeight targetHeight : ℕ) → Record
 
 -- the kinds of records; a first byte that begins no record is of the other kind
 pub data Kind : Type 0 where
   memberKind : Kind
   checkpointKind : Kind
   voteKind : Kind
+  bundleKind : Kind
   otherKind : Kind
 
 unfoldable pub kindOf : ℕ → Kind
-kindOf b = cond (eqb b 1) memberKind (cond (eqb b 2) checkpointKind (cond (eqb b 3) voteKind otherKind))
+kindOf b =
+    cond (eqb b 1) memberKind
+    (cond (eqb b 2) checkpointKind
+    (cond (eqb b 3) voteKind
+    (cond (eqb b 5) bundleKind otherKind)))
 
 -- a record's bytes in all; 0 for a kind that is unknown
 unfoldable pub sizeOf : Kind → ℕ
 sizeOf memberKind = 11
 sizeOf checkpointKind = 65
 sizeOf voteKind = 75
+sizeOf bundleKind = 89
 sizeOf otherKind = 0
 
 -- a whole record
@@ -47,6 +54,9 @@ unfoldable pub decodeAs : Kind → List ℕ → Record
 decodeAs memberKind s = memberRecord (field 1 2 s) (field 3 8 s)
 decodeAs checkpointKind s = checkpointRecord (part 1 32 s) (part 33 32 s)
 decodeAs voteKind s = voteRecord (field 1 2 s) (part 3 32 s) (part 35 32 s) (field 67 4 s) (field 71 4 s)
+-- "16 bytes of member bits, then source, target and two heights as in a vote"
+decodeAs bundleKind s =
+    bundleRecord (part 1 16 s) (part 17 32 s) (part 49 32 s) (field 81 4 s) (field 85 4 s)
 decodeAs otherKind s = unknownKind
 
 -- the size by a record's first byte

@@ -22,6 +22,14 @@ pub record Vote : Type 0 where
   pub source : ℕ
   pub target : ℕ
 
+-- a link between two checkpoints, by their places
+pub record Link : Type 0 where
+  pub source : ℕ
+  pub target : ℕ
+
+abbrev pub link : ℕ → ℕ → Link
+link s t = record { source = s; target = t }
+
 pub record Model : Type 0 where
   pub members : List Member
   pub checkpoints : List Checkpoint

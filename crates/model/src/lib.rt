@@ -29,8 +29,8 @@ pub const MAX_BOND: u64 = 1_000_000_000_000;
 
 pub const MAX_ROOT_HEIGHT: u32 = 0;
 
-// Why something is refused: a case for each row of document 01's table, in its order; specs/Refusals.antt has the
-// numbers.
+// Why something is refused: a case for each row of document 01's table, in its order, and then of the change requests;
+// specs/Refusals.antt has the numbers.
 pub enum Refusal {
     LogTooShort,
     LogMark,
@@ -62,6 +62,8 @@ pub enum Refusal {
     NotEarlier,
     NoViolation,
     BufferTooShort,
+    BitWithoutMember,
+    NoBitSet,
 }
 
 // What writing a text into a lent buffer comes to: the text's length, or why nothing was written.

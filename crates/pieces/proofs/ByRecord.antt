@@ -12,7 +12,8 @@ use Rattle.model.specs.Answer.{refused}
 use Rattle.model.specs.Bytes.{AreBytes}
 use Rattle.model.specs.Change.{Decision, single}
 use Rattle.model.specs.Decide.{decideRecord, decide}
-use Rattle.model.specs.Log.{Kind, memberKind, checkpointKind, voteKind, otherKind, kindOf, sizeOf, decodeAs, recordSize, recordLength}
+use Rattle.model.specs.Log.{Kind, memberKind, checkpointKind, voteKind, bundleKind, otherKind, kindOf, sizeOf, decodeAs}
+use Rattle.model.specs.Log.{recordSize, recordLength}
 use Rattle.model.specs.Model.{Model}
 use Rattle.model.specs.Report.{outcomeLine}
 use Rattle.model.proofs.Bytes.{drop-bytes}
@@ -23,12 +24,12 @@ use Rattle.state.specs.State.{modelOf, stored}
 use Rattle.state.specs.declared.Witness.{Witness}
 use Rattle.state.proofs.Kept.{reading-sound}
 use Rattle.state.proofs.Sound.{true-sound}
-use Rattle.feeding.specs.Feed.{Feeding, pausedAt, ahead, lineRoom, lastNumber, spent, halted, feedFrom, onSound, feedCall}
+use Rattle.feeding.specs.Feed.{Feeding, pausedAt, ahead, recordRoom, lastNumber, spent, halted, feedFrom, onSound, feedCall}
 use Rattle.pieces.proofs.Prefix.{left-shorter}
 
 -- P of the room, the witness, the number of the next record, the bytes from there on, and what the call comes to
 module _ (P : ℕ → Witness → ℕ → List ℕ → Feeding → Type 0)
-    (spent-case : (room : ℕ) (w : Witness) → Sound w → (k : ℕ) (s : List ℕ) → (ltb room lineRoom || eqb k lastNumber) ≡ true → P room w k s (pausedAt [] (spent room) w k))
+    (spent-case : (room : ℕ) (w : Witness) → Sound w → (k : ℕ) (s : List ℕ) → (ltb room recordRoom || eqb k lastNumber) ≡ true → P room w k s (pausedAt [] (spent room) w k))
     (halted-case : (room : ℕ) (w : Witness) → Sound w → (k : ℕ) (s : List ℕ) → eqb (recordLength s) 0 ≡ true → P room w k s (halted (decide (modelOf w) s .told) w k))
     (passed-case : (room : ℕ) (w : Witness) → Sound w → (k : ℕ) (s : List ℕ) → AreBytes s → eqb (recordLength s) 0 ≡ false → (f : Feeding)
     → let line = outcomeLine k (decide (modelOf w) s .told) in
@@ -37,7 +38,7 @@ module _ (P : ℕ → Witness → ℕ → List ℕ → Feeding → Type 0)
   unfolding feedFrom
   from-elim zero room w sound k s bytes fits = absurd (omega arith)
   from-elim (suc n) room w sound k s bytes fits =
-      go (from-elim n (room - length line) (stored w d) (reading-sound w sound s bytes) (k + 1) left (drop-bytes (recordLength s) s bytes)) (ltb room lineRoom || eqb k lastNumber) refl (eqb (recordLength s) 0) refl
+      go (from-elim n (room - length line) (stored w d) (reading-sound w sound s bytes) (k + 1) left (drop-bytes (recordLength s) s bytes)) (ltb room recordRoom || eqb k lastNumber) refl (eqb (recordLength s) 0) refl
     where
       d : Decision
       d = decide (modelOf w) s
@@ -51,7 +52,7 @@ module _ (P : ℕ → Witness → ℕ → List ℕ → Feeding → Type 0)
       later : Feeding
       later = feedFrom n (room - length line) (stored w d) (k + 1) left
 
-      go : (length left < n → P (room - length line) (stored w d) (k + 1) left later) → (spent? : Bool) → (ltb room lineRoom || eqb k lastNumber) ≡ spent? → (halt : Bool) → eqb (recordLength s) 0 ≡ halt
+      go : (length left < n → P (room - length line) (stored w d) (k + 1) left later) → (spent? : Bool) → (ltb room recordRoom || eqb k lastNumber) ≡ spent? → (halt : Bool) → eqb (recordLength s) 0 ≡ halt
           → P room w k s (cond spent? (pausedAt [] (spent room) w k) (cond halt (halted (d .told) w k) (ahead line (recordLength s) later)))
       go ih true none halt e = spent-case room w sound k s none
       go ih false some true e = halted-case room w sound k s e
@@ -79,6 +80,7 @@ halts (b ∷ r) e = go (ltb (length (b ∷ r)) (recordSize b)) refl (kindOf b) r
     go false c memberKind i e = clash e refl
     go false c checkpointKind i e = clash e refl
     go false c voteKind i e = clash e refl
+    go false c bundleKind i e = clash e refl
     go false c otherKind i e = unknown i
 
 -- what is decided there, and that nothing is passed

@@ -19,7 +19,7 @@ use Rattle.state.specs.State.{modelOf, stored}
 use Rattle.state.specs.declared.Witness.{Witness}
 use Rattle.state.proofs.Kept.{reading-kept}
 use Rattle.state.specs.Sound.{Sound}
-use Rattle.feeding.specs.Feed.{wants, full, outOfNumbers, Feeding, pausedAt, ahead, lineRoom, spent, halted, feedCall, endText}
+use Rattle.feeding.specs.Feed.{wants, full, outOfNumbers, Feeding, pausedAt, ahead, recordRoom, spent, halted, feedCall, endText}
 use Rattle.pieces.specs.Pieces.{onward}
 use Rattle.pieces.proofs.ByRecord.{call-elim, Halts, nothing-left, unknown, cut, halts, Decided, unknown-decided, cut-decided}
 use Rattle.pieces.proofs.RestOfReport.{restOfReport, rest-goes-on, rest-stops, rest-ends}
@@ -62,10 +62,10 @@ module _ (w : Witness) (sound : Sound w) (k : ℕ) where
       subst (λ (d : Decision). FedOf w k (kind ∷ r) (halted (d .told) w k)) (sym (is .is))
       (waiting (kind ∷ r) (rest-stops m k 5 (kind ∷ r) (is .is) (is .none) refl ∙ rw (ne-eqb (length (kind ∷ r)) 0 (λ p. omega (arith, p)))))
 
-  -- no room for a line, or no number for a record
+  -- no room for the lines of a record, or no number for it
   spent-fed : (s : List ℕ) (room : ℕ) → FedOf w k s (pausedAt [] (spent room) w k)
   unfolding onward
-  spent-fed s room = go (ltb room lineRoom)
+  spent-fed s room = go (ltb room recordRoom)
     where
       go : (no-room : Bool) → FedOf w k s (pausedAt [] (cond no-room full outOfNumbers) w k)
       go true = record { sound = sound; goes-on = λ t. refl; waits = λ p. let z : _≡_ {A = ℕ} 0 1 = cc in absurd (omega arith) }

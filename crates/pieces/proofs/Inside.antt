@@ -17,7 +17,7 @@ use Rattle.state.specs.declared.Witness.{Witness}
 use Rattle.reader.proofs.Made.{length-inside}
 use Rattle.text.proofs.Putting.{kept}
 use Rattle.state.specs.Sound.{sound?}
-use Rattle.feeding.specs.Feed.{Feeding, full, wants, ended, pausedAt, ahead, refusedBy, lineRoom, lastNumber, spent, halted, feedFrom, onSound, feedCall, headed, openCall, IsFed}
+use Rattle.feeding.specs.Feed.{Feeding, full, wants, ended, pausedAt, ahead, refusedBy, lineRoom, recordRoom, lastNumber, spent, halted, feedFrom, onSound, feedCall, headed, openCall, IsFed}
 use Rattle.feeding.specs.declared.Fed.{Fed}
 
 halted-passes : (t : Answer Told) (w : Witness) (k : ℕ) → halted t w k .passed ≡ 0
@@ -37,7 +37,7 @@ from-passes (suc n) room w k s =
     let size = recordLength s in
     let line = outcomeLine k (d .told) in
     one (d .told) size line (feedFrom n (room - length line) (stored w d) (k + 1) (drop size s)) (length-inside s)
-    (from-passes n (room - length line) (stored w d) (k + 1) (drop size s)) (ltb room lineRoom || eqb k lastNumber) (eqb size 0)
+    (from-passes n (room - length line) (stored w d) (k + 1) (drop size s)) (ltb room recordRoom || eqb k lastNumber) (eqb size 0)
   where
     one : (t : Answer Told) (size : ℕ) (line : List ℕ) (later : Feeding) → size ≤ length s → later .passed ≤ length (drop size s) → (spent? none : Bool)
         → cond spent? (pausedAt [] (spent room) w k) (cond none (halted t w k) (ahead line size later)) .passed ≤ length s

@@ -23,7 +23,7 @@ use Rattle.state.specs.State.{emptyWitness, modelOf, stored}
 use Rattle.state.specs.declared.Witness.{Witness}
 use Rattle.state.proofs.Sound.{true-sound}
 use Rattle.state.proofs.Started.{empty-model, empty-sound, header-long, header-name}
-use Rattle.feeding.specs.Feed.{Paused, wants, full, outOfNumbers, ended, refusedBy, Feeding, pausedAt, ahead, lineRoom, lastNumber, spent, halted, headed, onSound, feedFrom, openCall, feedCall, endText, endFed, endCall}
+use Rattle.feeding.specs.Feed.{Paused, wants, full, outOfNumbers, ended, refusedBy, Feeding, pausedAt, ahead, lineRoom, recordRoom, lastNumber, spent, halted, headed, onSound, feedFrom, openCall, feedCall, endText, endFed, endCall}
 use Rattle.pieces.specs.Pieces.{Piece, onward, inWant?, fedText, lastPause, endPause, InPieces, OpenWaits, FeedGoesOn, CloseEnds}
 use Rattle.pieces.proofs.Feeding.{Waits, fed-call}
 use Rattle.pieces.proofs.RestOfReport.{restOfReport}
@@ -172,7 +172,7 @@ in-pieces log bytes room w last first ps is heads has-room (fed, closed) =
     (subst (λ (f : Feeding). inWant? (closes room (first .bytes) ps f) ≡ false) is-headed closed)
     ∙ ap report (sym is)
 
--- ---- with room for a line, a record is passed
+-- ---- with room for the lines of any record, one is passed
 
 halted-not-in-want : (t : Answer Told) (w : Witness) (k : ℕ) → inWant? (halted t w k .paused) ≡ false
 unfolding halted inWant?
@@ -188,9 +188,9 @@ module _ (n room : ℕ) (w : Witness) (k : ℕ) (s : List ℕ) where
   abbrev d : Decision
   d = decide (modelOf w) s
 
-  first-passed : (ltb room lineRoom || eqb k lastNumber) ≡ false → inWant? (feedFrom (suc n) room w k s .paused) ≡ true → 0 < feedFrom (suc n) room w k s .passed
+  first-passed : (ltb room recordRoom || eqb k lastNumber) ≡ false → inWant? (feedFrom (suc n) room w k s .paused) ≡ true → 0 < feedFrom (suc n) room w k s .passed
   unfolding feedFrom
-  first-passed goes e = go (ltb room lineRoom || eqb k lastNumber) (eqb (recordLength s) 0) goes refl e
+  first-passed goes e = go (ltb room recordRoom || eqb k lastNumber) (eqb (recordLength s) 0) goes refl e
     where
       later : Feeding
       later = feedFrom n (room - length (outcomeLine k (d .told))) (stored w d) (k + 1) (drop (recordLength s) s)
@@ -210,8 +210,8 @@ pub feed-goes-on : FeedGoesOn
 unfolding feedCall onSound inWant?
 feed-goes-on room w k s has-room number = go (sound? w)
   where
-    goes : (ltb room lineRoom || eqb k lastNumber) ≡ false
-    goes = rw (le-ltb room lineRoom has-room) (ne-eqb k lastNumber (λ e. omega (arith, e, number)))
+    goes : (ltb room recordRoom || eqb k lastNumber) ≡ false
+    goes = rw (le-ltb room recordRoom has-room) (ne-eqb k lastNumber (λ e. omega (arith, e, number)))
 
     go : (b : Bool) → inWant? (cond b (feedFrom (length s + 1) room w k s) (pausedAt [] (refusedBy 40) w k) .paused) ≡ true
         → 0 < cond b (feedFrom (length s + 1) room w k s) (pausedAt [] (refusedBy 40) w k) .passed

@@ -10,7 +10,8 @@ use Rattle.model.specs.Report.{report}
 use Rattle.state.specs.State.{modelOf}
 use Rattle.state.specs.declared.Witness.{Witness}
 use Rattle.state.specs.Sound.{sound?}
-use Rattle.feeding.specs.Feed.{Paused, wants, full, outOfNumbers, ended, refusedBy, Feeding, pausedAt, lineRoom, lastNumber, openCall, feedCall, endText, endCall}
+use Rattle.feeding.specs.Feed.{Paused, wants, full, outOfNumbers, ended, refusedBy, Feeding, pausedAt}
+use Rattle.feeding.specs.Feed.{lineRoom, recordRoom, lastNumber, openCall, feedCall, endText, endCall}
 
 -- a call of `open` or `feed`: the room in its buffer, and the bytes that were added to what the last call left
 pub record Piece : Type 0 where
@@ -89,9 +90,12 @@ InPieces =
 abbrev pub OpenWaits : Type 0
 OpenWaits = (room : ℕ) (w : Witness) (log : List ℕ) → length log < 37 → openCall false room w log ≡ pausedAt [] wants w 0
 
--- A call of `feed` with room for a line, and a number for a record, does not pause for want of them before it has passed a record.
+-- A call of `feed` with room for the lines of a record, and a number for it, does not pause for want of them before it
+-- has passed a record.
 abbrev pub FeedGoesOn : Type 0
-FeedGoesOn = (room : ℕ) (w : Witness) (k : ℕ) (s : List ℕ) → lineRoom ≤ room → k < lastNumber → inWant? (feedCall room w k s .paused) ≡ true → 0 < feedCall room w k s .passed
+FeedGoesOn =
+    (room : ℕ) (w : Witness) (k : ℕ) (s : List ℕ) → recordRoom ≤ room → k < lastNumber
+    → inWant? (feedCall room w k s .paused) ≡ true → 0 < feedCall room w k s .passed
 
 -- A call of `close` with room for its text ends the report. No summary has more than 65,536 bytes (crate summary).
 abbrev pub CloseEnds : Type 0

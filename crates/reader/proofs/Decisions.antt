@@ -14,14 +14,14 @@ use Rattle.rules.specs.declared.Decision.{Decision}
 use Rattle.state.specs.State.{modelOf}
 use Rattle.state.specs.declared.Witness.{Witness}
 
-first-fits : {m : Model} {c : Change} {cs : List Change} → FitAll m (c ∷ cs) → Fits m c
+pub first-fits : {m : Model} {c : Change} {cs : List Change} → FitAll m (c ∷ cs) → Fits m c
 first-fits (one-change fits rest) = fits
 
 -- `d` is what is decided on the record of the log at `at`
 abbrev pub Says : Witness → List ℕ → ℕ → Decision → Type 0
-Says w log at d = decisionOf (drop at log) d ≡ decide (modelOf w) (drop at log)
+Says w log at d = decisionOf (modelOf w) (drop at log) d ≡ decide (modelOf w) (drop at log)
 
-pub says-fits : (w : Witness) (log : List ℕ) (at : ℕ) → AreBytes log → (d : Decision) {c : Change} → Says w log at d → decisionOf (drop at log) d .changes ≡ c ∷ [] → Fits (modelOf w) c
+pub says-fits : (w : Witness) (log : List ℕ) (at : ℕ) → AreBytes log → (d : Decision) {c : Change} → Says w log at d → decisionOf (modelOf w) (drop at log) d .changes ≡ c ∷ [] → Fits (modelOf w) c
 says-fits w log at bytes d says one =
     first-fits
     (subst (λ (cs : List Change). FitAll (modelOf w) cs) one

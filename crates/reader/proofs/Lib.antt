@@ -1,5 +1,10 @@
+pub mod Entries
+pub mod Told
 pub mod Runs
 pub mod Made
 pub mod Decisions
 pub mod Searched
+pub mod Casting
+pub mod Votes
+pub mod Single
 pub mod Example

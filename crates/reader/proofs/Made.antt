@@ -1,13 +1,14 @@
 -- What reading on comes to, said of its records: what every record that is passed keeps up holds where the reading ended; and
 -- what stands there ended it.
-use Prim.Native.Nat.{ℕ, zero, suc, _+_, _<_, _≤_}
+use Prim.Native.Nat.{ℕ, zero, suc, _+_, _-_, _<_, _≤_}
 use native.Mathlib.Omega.{arith}
-use mathlib.Core.Path.{_≡_, refl, sym, ap, _∙_, subst}
-use mathlib.Core.List.{List, [], _∷_, _++_, map, append-assoc, append-nil}
+use mathlib.Core.Path.{_≡_, refl, sym, ap, subst}
+use mathlib.Core.List.{List, [], _∷_, _++_, flatMap, append-assoc, append-nil}
+use mathlib.Core.Logic.{_⊎_, inl, inr, ⊎-elim}
 use mathlib.Core.Bool.{Bool, true, false, cond}
-use borrow.Author.Tests.{eqb-true, ltb-false}
+use borrow.Author.Tests.{eqb-true, ltb-true, ltb-false}
 use lib.Dec.{eqb, ltb}
-use lib.ListN.{length, drop, length-drop, length-append}
+use lib.ListN.{length, drop, length-append}
 use Rattle.model.specs.Answer.{Answer}
 use Rattle.model.specs.Change.{Told, Decision, single}
 use Rattle.model.specs.Decide.{decideRecord, decide}
@@ -15,12 +16,12 @@ use Rattle.model.specs.Log.{Record, recordSize, recordLength}
 use Rattle.model.specs.Model.{Model}
 use Rattle.model.proofs.Log.{decode-elim}
 use Rattle.state.specs.State.{modelOf, storeAll, stored}
-use Rattle.state.specs.Reading.{outcomeOf, IsReading}
-use Rattle.state.specs.declared.Outcome.{Outcome}
+use Rattle.state.specs.Reading.{Brief, brief}
 use Rattle.state.specs.declared.Witness.{Witness}
-use Rattle.reader.specs.Many.{Ended, rowsUsed, endedBy, Many, behind, readMany, lastTold, rowOf, endOf, endedTold, IsBatch}
-use Rattle.reader.specs.declared.Batch.{Batch}
-use Rattle.reader.proofs.Runs.{length-rows}
+use Rattle.reader.specs.Entries.{rowsOf, entriesOf, entries}
+use Rattle.reader.specs.Many.{spent, endedBy, Many, behind, nonePassed, readMany}
+use Rattle.reader.proofs.Entries.{marked-length, entries-more}
+use Rattle.reader.proofs.Told.{told-rowed}
 
 -- a record is within what is left of the log
 pub length-inside : (s : List ℕ) → recordLength s ≤ length s
@@ -44,6 +45,7 @@ stays w m s =
       member = λ _ e. absurd (omega arith);
       checkpoint = λ _ e. absurd (omega arith);
       vote = λ _ e. absurd (omega arith);
+      bundle = λ _ e. absurd (omega arith);
     })
 
 module _ (log : List ℕ) where
@@ -53,91 +55,109 @@ module _ (log : List ℕ) where
   abbrev past : ℕ → ℕ
   past at = at + recordLength (drop at log)
 
-  abbrev stopped : Witness → ℕ → Many
-  stopped w at = record { passed = []; end = endedBy (at-offset w at .told); next = at; witness = w }
+  -- one record, where it may be read
+  abbrev reads : ℕ → ℕ → Witness → ℕ → Bool → Bool → Many
+  reads n room w at short stops =
+      let d = at-offset w at in
+      cond short (nonePassed spent w at)
+      (cond stops (nonePassed (endedBy (brief (d .told))) w at)
+      (behind (d .told ∷ []) (readMany n (room - length (entriesOf (d .told))) (stored w d) log (past at))))
 
   -- P of what was told so far, the witness and the offset
-  module _ (n : ℕ) (P : List (Answer Told) → Witness → ℕ → Type 0)
-      (step : (ts : List (Answer Told)) (w : Witness) (at : ℕ) → length ts < n → eqb (recordLength (drop at log)) 0 ≡ false → P ts w at → P (ts ++ at-offset w at .told ∷ []) (stored w (at-offset w at)) (past at)) where
+  module _ (n room : ℕ) (P : List (Answer Told) → Witness → ℕ → Type 0)
+      (step : (ts : List (Answer Told)) (w : Witness) (at : ℕ) → length ts < n → length (entries ts) + 128 ≤ room → eqb (recordLength (drop at log)) 0 ≡ false → P ts w at → P (ts ++ at-offset w at .told ∷ []) (stored w (at-offset w at)) (past at)) where
     abbrev Holds : List (Answer Told) → Many → Type 0
     Holds ts m = P (ts ++ m .passed) (m .witness) (m .next)
 
-    from : (k : ℕ) (ts : List (Answer Told)) (w : Witness) (at : ℕ) → length ts + k ≡ n → P ts w at → Holds ts (readMany k w log at)
+    from : (k free : ℕ) (ts : List (Answer Told)) (w : Witness) (at : ℕ) → length ts + k ≡ n → length (entries ts) + free ≡ room → P ts w at → Holds ts (readMany k free w log at)
     unfolding readMany
-    from zero ts w at e p = subst (λ (l : List (Answer Told)). P l w at) (sym (append-nil ts)) p
-    from (suc k) ts w at e p = go (from k (ts ++ d .told ∷ []) (stored w d) (past at)) (eqb (recordLength (drop at log)) 0) refl
+    from zero free ts w at e f p = subst (λ (l : List (Answer Told)). P l w at) (sym (append-nil ts)) p
+    from (suc k) free ts w at e f p =
+        go (from k (free - length (entriesOf t)) (ts ++ t ∷ []) (stored w d) (past at)) (ltb free 128) refl (eqb (recordLength (drop at log)) 0) refl
       where
         d : Decision
         d = at-offset w at
 
-        on : Many
-        on = readMany k (stored w d) log (past at)
+        t : Answer Told
+        t = d .told
 
-        go : (length (ts ++ d .told ∷ []) + k ≡ n → P (ts ++ d .told ∷ []) (stored w d) (past at) → Holds (ts ++ d .told ∷ []) on) → (b : Bool) → eqb (recordLength (drop at log)) 0 ≡ b
-            → Holds ts (cond b (stopped w at) (behind (d .told ∷ []) on))
-        go ih true t = subst (λ (l : List (Answer Told)). P l w at) (sym (append-nil ts)) p
-        go ih false t =
-            subst (λ (l : List (Answer Told)). P l (on .witness) (on .next)) (append-assoc ts (d .told ∷ []) (on .passed))
-            (ih (omega (arith, e, length-append ts (d .told ∷ []))) (step ts w at (omega (arith, e)) t p))
+        on : Many
+        on = readMany k (free - length (entriesOf t)) (stored w d) log (past at)
+
+        stay : Holds ts (nonePassed spent w at)
+        stay = subst (λ (l : List (Answer Told)). P l w at) (sym (append-nil ts)) p
+
+        go : (length (ts ++ t ∷ []) + k ≡ n → length (entries (ts ++ t ∷ [])) + (free - length (entriesOf t)) ≡ room → P (ts ++ t ∷ []) (stored w d) (past at) → Holds (ts ++ t ∷ []) on)
+            → (a : Bool) → ltb free 128 ≡ a → (b : Bool) → eqb (recordLength (drop at log)) 0 ≡ b → Holds ts (reads k free w at a b)
+        go ih true q b r = stay
+        go ih false q true r = stay
+        go ih false q false r =
+            let free-long = ltb-false free 128 q in
+            let few : length (entriesOf t) ≤ 128 = omega (arith, marked-length (rowsOf t), told-rowed (modelOf w) (drop at log) .few) in
+            subst (λ (l : List (Answer Told)). P l (on .witness) (on .next)) (append-assoc ts (t ∷ []) (on .passed))
+            (ih (omega (arith, e, length-append ts (t ∷ [])))
+            (omega (arith, f, few, free-long, ap length (entries-more ts t), length-append (entries ts) (entriesOf t)))
+            (step ts w at (omega (arith, e)) (omega (arith, f, free-long)) r p))
 
     -- it holds of the whole
-    pub while-passed : (w : Witness) (at : ℕ) → P [] w at → P (readMany n w log at .passed) (readMany n w log at .witness) (readMany n w log at .next)
-    while-passed w at p = from n [] w at (omega arith) p
+    pub while-passed : (w : Witness) (at : ℕ) → P [] w at → P (readMany n room w log at .passed) (readMany n room w log at .witness) (readMany n room w log at .next)
+    unfolding flatMap
+    while-passed w at p = from n room [] w at (omega arith) (omega arith) p
 
-  -- the end: as many were passed as may be, or a record that cannot be
-  pub record Ends (n : ℕ) (m : Many) : Type 0 where
+  -- the end: as many were passed as may be, or there is no room for another's entries, or a record that cannot be passed
+  pub record Stops (n room : ℕ) (m : Many) : Type 0 where
+    pub may : length (m .passed) < n
+    pub free : length (entries (m .passed)) + 128 ≤ room
+    pub none : recordLength (drop (m .next) log) ≡ 0
+    pub why : m .end ≡ endedBy (brief (at-offset (m .witness) (m .next) .told))
+
+  pub record Ends (n room : ℕ) (m : Many) : Type 0 where
     pub few : length (m .passed) ≤ n
-    pub here : length (m .passed) < n → (recordLength (drop (m .next) log) ≡ 0) × (m .end ≡ endedBy (at-offset (m .witness) (m .next) .told))
+    pub short : length (entries (m .passed)) ≤ room
+    pub here : ((m .end ≡ spent) × ((length (m .passed) ≡ n) ⊎ (room < length (entries (m .passed)) + 128))) ⊎ Stops n room m
 
-  pub many-ends : (n : ℕ) (w : Witness) (at : ℕ) → Ends n (readMany n w log at)
-  unfolding readMany
-  many-ends zero w at = record { few = omega arith; here = λ h. absurd (omega arith) }
-  many-ends (suc n) w at = go (many-ends n (stored w d) (past at)) (eqb (recordLength (drop at log)) 0) refl
+  pub many-ends : (n room : ℕ) (w : Witness) (at : ℕ) → Ends n room (readMany n room w log at)
+  unfolding readMany flatMap
+  many-ends zero room w at = record { few = omega arith; short = omega arith; here = inl (refl, inl refl) }
+  many-ends (suc n) room w at = go (many-ends n (room - length (entriesOf t)) (stored w d) (past at)) (ltb room 128) refl (eqb (recordLength (drop at log)) 0) refl
     where
       d : Decision
       d = at-offset w at
 
+      t : Answer Told
+      t = d .told
+
       on : Many
-      on = readMany n (stored w d) log (past at)
+      on = readMany n (room - length (entriesOf t)) (stored w d) log (past at)
 
-      go : Ends n on → (b : Bool) → eqb (recordLength (drop at log)) 0 ≡ b → Ends (suc n) (cond b (stopped w at) (behind (d .told ∷ []) on))
-      go ih true t = record { few = omega arith; here = λ h. (eqb-true (recordLength (drop at log)) 0 t, refl) }
-      go ih false t = record { few = omega (arith, ih .few); here = λ h. ih .here (omega arith) }
-
--- where one record may be read, reading on is its reading
-module _ (w : Witness) (log : List ℕ) (at : ℕ) {before after : List ℕ} {r : Batch} (is : IsBatch (readMany 1 w log at) before r after) where
-  abbrev s : List ℕ
-  s = drop at log
-
-  -- what ended it is told; and where nothing did, the record was passed and is the last
-  pub one-reading : (o : Outcome) → outcomeOf o ≡ endedTold (endOf (r .end)) (outcomeOf (r .last))
-      → IsReading w (decide (modelOf w) s) (at + recordLength s) (record { outcome = o; next = r .next; witness = r .witness })
-  unfolding readMany lastTold
-  one-reading o said = go (eqb (recordLength s) 0) refl is
-    where
-      d : Decision
-      d = decide (modelOf w) s
-
-      go : (b : Bool) → eqb (recordLength s) 0 ≡ b
-          → IsBatch (cond b (stopped log w at) (record { passed = d .told ∷ []; end = rowsUsed; next = at + recordLength s; witness = stored w d })) before r after
-          → IsReading w d (at + recordLength s) (record { outcome = o; next = r .next; witness = r .witness })
-      go true e i =
-          let none = eqb-true (recordLength s) 0 e in
+      go : Ends n (room - length (entriesOf t)) on → (a : Bool) → ltb room 128 ≡ a → (b : Bool) → eqb (recordLength (drop at log)) 0 ≡ b → Ends (suc n) room (reads n room w at a b)
+      go ih true q b r = record { few = omega arith; short = omega arith; here = inl (refl, inr (omega (arith, ltb-true room 128 q))) }
+      go ih false q true r =
           record {
-            outcome = said ∙ ap (λ (x : Ended). endedTold x (outcomeOf (r .last))) (i .end);
-            next = omega (arith, i .next, none);
-            witness = i .witness ∙ sym (stays w (modelOf w) s none);
+            few = omega arith;
+            short = omega arith;
+            here = inr (record { may = omega arith; free = omega (arith, ltb-false room 128 q); none = eqb-true (recordLength (drop at log)) 0 r; why = refl });
           }
-      go false e i =
+      go ih false q false r =
+          let long = ltb-false room 128 q in
+          let few : length (entriesOf t) ≤ 128 = omega (arith, marked-length (rowsOf t), told-rowed (modelOf w) (drop at log) .few) in
+          let all : length (entriesOf t ++ entries (on .passed)) ≡ length (entriesOf t) + length (entries (on .passed)) = length-append (entriesOf t) (entries (on .passed)) in
           record {
-            outcome = said ∙ ap (λ (x : Ended). endedTold x (outcomeOf (r .last))) (i .end) ∙ i .last;
-            next = i .next;
-            witness = i .witness;
+            few = omega (arith, ih .few);
+            short = omega (arith, ih .short, all, long, few);
+            here =
+                ⊎-elim
+                (λ h. inl (h .0, ⊎-elim (λ e. inl (ap suc e)) (λ l. inr (omega (arith, l, all, long, few))) (h .1)))
+                (λ h. inr (record { may = omega (arith, h .may); free = omega (arith, h .free, all, long, few); none = h .none; why = h .why }))
+                (ih .here);
           }
 
--- as many rows stand there as were lent
-pub rows-kept : (n : ℕ) (w : Witness) (log : List ℕ) (at : ℕ) {before after : List ℕ} {r : Batch} → length before ≡ n → IsBatch (readMany n w log at) before r after → length after ≡ n
-rows-kept n w log at {before} e is =
-    let m = readMany n w log at in
-    ap length (is .rows) ∙ length-append (map rowOf (m .passed)) (drop (length (m .passed)) before)
-    ∙ omega (arith, length-rows (m .passed), length-drop (length (m .passed)) before, many-ends log n w at .few, e)
+-- an end has one reason
+pub not-both : {a : Answer Brief} → spent ≡ endedBy a → ⊥
+not-both e = let z : _≡_ {A = ℕ} 0 1 = cc in absurd (omega arith)
+
+-- where there are entries, something was told
+pub some-told : (ts : List (Answer Told)) → 0 < length (entries ts) → 0 < length ts
+unfolding flatMap
+some-told [] h = absurd (omega arith)
+some-told (t ∷ ts) h = omega arith

@@ -1,28 +1,37 @@
 // Reading a log on: several records in one call.
+use model::MAX_MEMBERS;
 use rules::Decision;
+use rules::votes::Ballot;
 use state::Counts;
 use state::Outcome;
 use state::Witness;
 ghost use mathlib.Core.Path.{_≡_};
+ghost use mathlib.Core.Bool.{cond};
+ghost use Prim.Native.Nat.{_<_, _≤_};
 ghost use lib.ListN.{length};
 ghost use Rattle.state.specs.Sound.{Sound};
-ghost use Rattle.state.specs.Reading.{outcomeOf};
-ghost use Rattle.reader.specs.Many.{rowOf, readMany, endOf, endedTold, IsBatch};
+ghost use Rattle.model.specs.Limits.{memberLimit};
+ghost use Rattle.state.specs.Reading.{outcomeOf, rowOf, padded};
+ghost use Rattle.rules.specs.Ballot.{changeOf};
+ghost use Rattle.reader.specs.Entries.{later, votesIn, lastRows};
+ghost use Rattle.reader.specs.Many.{readMany, endOf, endedTold, IsBatch};
 
-// Why reading on ended: as many records were passed as rows were lent; or by what the next one came to, which cannot be
-// passed (`Nothing` where none is left).
+// Why reading on ended: no more records may be passed, since as many were as the limit says, or fewer than 128 bytes
+// are left for their entries (so with a limit of 0, or fewer than 128 bytes lent, none ever is); or by what the next
+// one came to, which cannot be passed (`Nothing` where none is left).
 pub enum End {
-    RowsUsed,
+    Spent,
     EndedBy(Outcome),
 }
 
 // What reading on comes to: why it ended, what the last record that was passed came to (`Nothing` where none was), the
-// offset to go on from, how many records were passed, and the witness.
+// offset to go on from, how many records were passed and how many entries they have, and the witness.
 pub struct Batch {
     pub end: End,
     pub last: Outcome,
     pub next: usize,
-    pub records: usize,
+    pub records: u64,
+    pub used: usize,
     pub witness: Witness,
 }
 
@@ -34,17 +43,40 @@ fn row_of(o: Outcome) -> u8
         Outcome::Refused(r) => refusals::refusal_number(r),
         Outcome::Nothing => 0,
         Outcome::Taken => 0,
+        Outcome::Bundled(_) => 0,
     }
 }
 
-// The records from `at` on, into a sound witness, to the log's end or its stop, or as many as there are rows lent; the
-// row of each goes there. The state is owned here alone and written in place: it is large, and a function that took it
-// and gave it back for each record would copy it each time. Beside it go the votes' numbers in chains, so that a vote
-// is soon looked for.
-pub fn read_many(w: Witness, log: &[u8], at: usize, rows: &mut [u8]) -> Batch
+// The number of the row that refused a vote of a bundle; 0 where none did.
+fn row_of_vote(b: Ballot) -> u8
+    ensures { λ r. ⌜ (r ≡ rowOf (changeOf b)) × (r < 128) ⌝ }
+{
+    match b {
+        Ballot::Refuse(r) => refusals::refusal_number(r),
+        Ballot::Cast(_, _, _) => 0,
+    }
+}
+
+// Its entry: the row, with 128 added where the vote is not the first of its bundle.
+fn vote_entry(b: Ballot, is_first: bool) -> u8
+    ensures { λ r. ⌜ r ≡ cond «is_first» (rowOf (changeOf b)) (later (rowOf (changeOf b))) ⌝ }
+{
+    let row = row_of_vote(b);
+    if is_first {
+        return row;
+    }
+    128 + row
+}
+
+// The records from `at` on, into a sound witness, to the log's end or its stop, at most `limit`, while 128 of the bytes
+// lent are free; the entries of each go there. The state is owned here alone and written in place: it is large, and a
+// function that took it and gave it back for each record would copy it each time. So the votes of a bundle are stored
+// here too, one after the other. Beside the state go the votes' numbers in chains, so that a vote is soon looked for.
+pub fn read_many(w: Witness, log: &[u8], at: usize, limit: u64, rows: &mut [u8]) -> Batch
     requires { ⌜ Sound w ⌝ }
     ensures { λ r. ⌜
-        IsBatch (readMany (length (now (rows .entry))) w (now (log .entry)) at) (now (rows .entry)) r (now (rows .exit))
+        IsBatch (readMany limit (length (now (rows .entry))) w (now (log .entry)) at) (now (rows .entry)) r
+        (now (rows .exit))
         ⌝ }
 {
     let sources = w.sources;
@@ -56,8 +88,9 @@ pub fn read_many(w: Witness, log: &[u8], at: usize, rows: &mut [u8]) -> Batch
     let mut held = w;
     let mut next = at;
     let mut last = Outcome::Nothing;
-    let mut i: usize = 0;
-    while i < rows.len() {
+    let mut records: u64 = 0;
+    let mut used: usize = 0;
+    while (records < limit) & (MAX_MEMBERS <= rows.len() - used) {
         let members = held.member_count;
         let checkpoints = held.checkpoint_count;
         let votes = held.vote_count;
@@ -87,10 +120,13 @@ pub fn read_many(w: Witness, log: &[u8], at: usize, rows: &mut [u8]) -> Batch
                 end: End::EndedBy(outcome),
                 last,
                 next,
-                records: i,
+                records,
+                used,
                 witness: held,
             };
         }
+        rows[used] = row_of(outcome);
+        let mut end = used + 1;
         match d {
             Decision::Member(id, bond) => {
                 held.ids[members] = id;
@@ -111,19 +147,51 @@ pub fn read_many(w: Witness, log: &[u8], at: usize, rows: &mut [u8]) -> Batch
                 let key = tables::votes::key(id, s, t);
                 search::put_first(&mut keys, &mut heads, &mut nexts, votes, key);
             }
+            Decision::Bundle(_, link) => {
+                end = used;
+                let mut p: usize = 0;
+                while p < MAX_MEMBERS {
+                    if wire::bits::is_set(log, next + 1, p) {
+                        let k = held.vote_count;
+                        let vote = rules::votes::decide_cast(
+                            link,
+                            &keys,
+                            &heads,
+                            &nexts,
+                            k,
+                            held.ids[p],
+                        );
+                        rows[end] = vote_entry(vote, end == used);
+                        end += 1;
+                        match vote {
+                            Ballot::Cast(id, s, t) => {
+                                held.voters[k] = id;
+                                held.sources[k] = s;
+                                held.targets[k] = t;
+                                held.vote_count = k + 1;
+                                let key = tables::votes::key(id, s, t);
+                                search::put_first(&mut keys, &mut heads, &mut nexts, k, key);
+                            }
+                            Ballot::Refuse(_) => {}
+                        }
+                    }
+                    p += 1;
+                }
+            }
             Decision::Nothing => {}
             Decision::Refuse(_) => {}
         }
-        rows[i] = row_of(outcome);
+        used = end;
         last = outcome;
         next += passed;
-        i += 1;
+        records += 1;
     }
     Batch {
-        end: End::RowsUsed,
+        end: End::Spent,
         last,
         next,
-        records: i,
+        records,
+        used,
         witness: held,
     }
 }
@@ -134,6 +202,35 @@ pub fn ended_by(e: End, otherwise: Outcome) -> Outcome
 {
     match e {
         End::EndedBy(o) => o,
-        End::RowsUsed => otherwise,
+        End::Spent => otherwise,
     }
+}
+
+// How many votes an outcome tells of; 0 where the record is no bundle, or is refused whole.
+fn votes_in(o: Outcome) -> usize
+    ensures { λ r. ⌜ r ≡ votesIn o ⌝ }
+{
+    match o {
+        Outcome::Bundled(n) => n,
+        Outcome::Nothing => 0,
+        Outcome::Taken => 0,
+        Outcome::Refused(_) => 0,
+    }
+}
+
+// The rows of the votes of the last record that was passed, from the entries of all; 0 past them, and where the record
+// is no bundle or is refused whole.
+pub fn last_votes(rows: &[u8], used: usize, last: Outcome) -> [u8; MAX_MEMBERS]
+    requires { ⌜ (used ≤ length (now rows)) × (votesIn last ≤ used) × (votesIn last ≤ memberLimit) ⌝ }
+    ensures { λ r. ⌜ r ≡ padded (lastRows (votesIn last) used (now (rows .entry))) ⌝ }
+{
+    let n = votes_in(last);
+    let from = used - n;
+    let mut votes = [0u8; MAX_MEMBERS];
+    let mut i: usize = 0;
+    while i < n {
+        votes[i] = rows[from + i] % 128;
+        i += 1;
+    }
+    votes
 }

@@ -1,4 +1,4 @@
-// The number of a refusal in document 01's table.
+// The number of a refusal in document 01's table, or of a change request's.
 use model::Refusal;
 ghost use mathlib.Core.Path.{_≡_};
 ghost use Rattle.model.specs.Refusals.{refusalNumber};
@@ -37,5 +37,7 @@ pub fn refusal_number(r: Refusal) -> u8
         Refusal::NotEarlier => 56,
         Refusal::NoViolation => 57,
         Refusal::BufferTooShort => 60,
+        Refusal::BitWithoutMember => 61,
+        Refusal::NoBitSet => 62,
     }
 }

@@ -7,7 +7,7 @@ use mathlib.Core.List.{List, [], _∷_}
 use mathlib.Core.Bool.{Bool, true, false, cond}
 use borrow.Author.Tests.{eq-eqb}
 use lib.Dec.{eqb}
-use lib.ListN.{length, drop, length-drop}
+use lib.ListN.{length, drop, replicate, length-drop}
 use lib.Seq.{drop-drop}
 use Rattle.model.specs.Answer.{Answer, refused, answer}
 use Rattle.model.specs.Bytes.{AreBytes, part}
@@ -17,7 +17,7 @@ use Rattle.model.specs.Log.{header, recordLength}
 use Rattle.model.specs.declared.Refusal.{Refusal}
 use Rattle.model.specs.Refusals.{refusalNumber}
 use Rattle.model.specs.Run.{Event, reading, readings}
-use Rattle.state.specs.Reading.{startOf, beginWith, IsBeginning}
+use Rattle.state.specs.Reading.{brief, rowsOfVotes, startOf, beginWith, IsBeginning}
 use Rattle.state.specs.State.{emptyWitness, modelOf, stored}
 use Rattle.state.specs.declared.Witness.{Witness}
 use Rattle.state.specs.declared.Beginning.{Beginning}
@@ -26,7 +26,7 @@ use Rattle.state.specs.declared.Start.the-variants.{Begun, Refused as RefusedHe
 use Rattle.witness.specs.Calls.{eventCall}
 use Rattle.guarantee.specs.Demand3.{witnessAfter, toldOf}
 use Rattle.guarantee.specs.LogRead.{Reads, readOn, recordsOf, replayed}
-use Rattle.replay.specs.IsReplay.{readOf, IsReplay}
+use Rattle.replay.specs.IsReplay.{shown, readOf, IsReplay}
 use Rattle.replay.specs.declared.Read.{Read}
 use Rattle.state.proofs.Started.{empty-sound, header-name}
 use Rattle.reader.specs.Many.{lastTold}
@@ -146,22 +146,24 @@ module _ (w : Witness) (log : List ℕ) (limit : ℕ) (r : Beginning) (is : IsBe
       let name = part 5 32 log in
       subst Sound (sym (begun-empty e)) (empty-sound name (header-name log name (begun-header e)))
 
-  pub begun-replay : r .outcome ≡ Begun → (read : Read) → readOf read ≡ readOn (answer nothingLeft) 0 (r .witness) (recordsOf limit log)
+  pub begun-replay : r .outcome ≡ Begun → (read : Read) → readOf read ≡ shown (readOn (answer nothingLeft) 0 (r .witness) (recordsOf limit log))
       → IsReplay w log limit (record { start = Begun; read = read })
   unfolding replayed
   begun-replay e read h = record {
     start = sym (begun-header e);
-    read = h ∙ ap (λ (v : Witness). readOn (answer nothingLeft) 0 v (recordsOf limit log)) (begun-empty e) ∙ ap (replayed w log limit) (sym (begun-header e));
+    read =
+        h ∙ ap (λ (v : Witness). shown (readOn (answer nothingLeft) 0 v (recordsOf limit log))) (begun-empty e)
+        ∙ ap (λ (x : Answer (List ℕ)). shown (replayed w log limit x)) (sym (begun-header e));
   }
 
   pub refused-replay : (f : Refusal) → r .outcome ≡ RefusedHeader f
-      → IsReplay w log limit (record { start = RefusedHeader f; read = record { last = Nothing; records = 0; witness = r .witness } })
-  unfolding replayed beginWith
+      → IsReplay w log limit (record { start = RefusedHeader f; read = record { last = Nothing; rows = replicate 128 0; records = 0; witness = r .witness } })
+  unfolding replayed beginWith brief rowsOfVotes
   refused-replay f e =
       let refused-is : header log ≡ refused (refusalNumber f) = sym (is .outcome) ∙ ap (startOf (part 5 32 log)) e in
       record {
         start = sym refused-is;
         read =
-            ap (λ (v : Witness). record { last = answer nothingLeft; records = 0; witness = v }) (is .witness ∙ ap (beginWith w) refused-is)
-            ∙ ap (replayed w log limit) (sym refused-is);
+            ap (λ (v : Witness). shown (record { last = answer nothingLeft; records = 0; witness = v })) (is .witness ∙ ap (beginWith w) refused-is)
+            ∙ ap (λ (x : Answer (List ℕ)). shown (replayed w log limit x)) (sym refused-is);
       }

@@ -77,8 +77,9 @@ fn unsound(w: Witness, records: u64, at: usize) -> Fed
     }
 }
 
-// The records of a piece from `at` on, the first of them record `records`: the lines of those that are refused. After
-// `Ended` no call belongs to the report.
+// The records of a piece from `at` on, the first of them record `records`: the lines of those that are refused. A
+// record is read while 8,192 bytes of the buffer are free, which the lines of any bundle fit. After `Ended` no call
+// belongs to the report.
 pub fn feed(w: Witness, records: u64, log: &[u8], at: usize, buf: &mut [u8]) -> Fed
     ensures { λ r. ⌜
         IsFed (feedCall (length (now (buf .entry))) w records (drop at (now (log .entry)))) at 0 (now (buf .entry)) r

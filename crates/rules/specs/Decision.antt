@@ -1,19 +1,56 @@
 -- What a decision of the code means in document 01's numbers and values.
-use Prim.Native.Nat.{ℕ}
-use mathlib.Core.List.{List}
-use Rattle.model.specs.Answer.{refused, answer}
+use Prim.Native.Nat.{ℕ, _<_, _≤_}
+use mathlib.Core.Path.{_≡_}
+use mathlib.Core.List.{List, [], _∷_}
+use mathlib.Core.Bool.{false}
+use lib.Dec.{leb}
+use lib.ListN.{length}
+use Rattle.model.specs.Answer.{Answer, refused, answer, andThen}
+use Rattle.model.specs.Bits.{setPlaces}
 use Rattle.model.specs.Bytes.{part}
-use Rattle.model.specs.Change.{Decision as Decided, addMember, addCheckpoint, addVote, single, nothingRead}
-use Rattle.model.specs.Model.{voteFor}
+use Rattle.model.specs.Change.{Decision as Decided, addMember, addCheckpoint, addVote, single, decided, together}
+use Rattle.model.specs.Change.{nothingRead}
+use Rattle.model.specs.Decide.{cast, room, bundleIds}
+use Rattle.model.specs.Limits.{memberLimit}
+use Rattle.model.specs.Lists.{any}
+use Rattle.model.specs.Model.{Model, Link, voteFor}
 use Rattle.model.specs.Refusals.{refusalNumber}
+use Rattle.rules.specs.Ballot.{linkAnswerOf}
 use Rattle.rules.specs.declared.Decision.{Decision}
-use Rattle.rules.specs.declared.Decision.the-variants.{Nothing, Refuse, Member, Checkpoint, Vote}
+use Rattle.rules.specs.declared.Decision.the-variants.{Nothing, Refuse, Member, Checkpoint, Vote, Bundle}
 
--- what is decided on the record that the bytes s begin with; a checkpoint's name is taken from there
-abbrev pub decisionOf : List ℕ → Decision → Decided
-decisionOf s Nothing = nothingRead
-decisionOf s (Refuse r) = single (refused (refusalNumber r))
-decisionOf s (Member id bond) = single (answer (addMember (record { id = id; bond = bond })))
-decisionOf s (Checkpoint p h) =
+-- rows 35 and 36, on a held member's vote for a link that rows 31 to 34 passed or refused
+unfoldable pub castVote : Model → Answer Link → ℕ → Decided
+castVote m l id = single (andThen (andThen l (cast m id)) (room m))
+
+-- the votes of the members with these ids, each meeting what the last one left
+unfoldable pub castEach : Model → Answer Link → List ℕ → List Decided
+castEach m l [] = []
+castEach m l (id ∷ ids) = let d = castVote m l id in d ∷ castEach (decided m d) l ids
+
+-- what is decided on the record that the bytes s begin with; a checkpoint's name, and the members of a bundle, are
+-- taken from there
+abbrev pub decisionOf : Model → List ℕ → Decision → Decided
+decisionOf m s Nothing = nothingRead
+decisionOf m s (Refuse r) = single (refused (refusalNumber r))
+decisionOf m s (Member id bond) = single (answer (addMember (record { id = id; bond = bond })))
+decisionOf m s (Checkpoint p h) =
     single (answer (addCheckpoint (record { name = part 1 32 s; parent = p .0; height = h .0 })))
-decisionOf s (Vote id source target) = single (answer (addVote (voteFor id (source .0) (target .0))))
+decisionOf m s (Vote id source target) = single (answer (addVote (voteFor id (source .0) (target .0))))
+decisionOf m s (Bundle n l) = together (castEach m (linkAnswerOf l) (bundleIds m (part 1 16 s)))
+
+-- of a bundle at the start of s that is not refused whole: so many bits are set, each of one of the members
+pub record Bits (members n : ℕ) (s : List ℕ) : Type 0 where
+  pub long : 89 ≤ length s
+  pub number : n ≡ length (setPlaces (part 1 16 s))
+  pub some : 0 < n
+  pub few : n ≤ memberLimit
+  pub held : any (λ p. leb members p) (setPlaces (part 1 16 s)) ≡ false
+
+abbrev pub BitsFit : ℕ → List ℕ → Decision → Type 0
+BitsFit members s Nothing = Unit {0}
+BitsFit members s (Refuse r) = Unit {0}
+BitsFit members s (Member id bond) = Unit {0}
+BitsFit members s (Checkpoint p h) = Unit {0}
+BitsFit members s (Vote id source target) = Unit {0}
+BitsFit members s (Bundle n l) = Bits members n s

@@ -30,7 +30,7 @@ pub fn decide_checkpoint(
         → NamesHeld m (now (names .entry)) count
         → HeightsHeld m heights count
         → let s = drop at (now (log .entry)) in
-        decisionOf s r ≡ single (decideCheckpoint m (part 1 32 s) (part 33 32 s)))
+        decisionOf m s r ≡ single (decideCheckpoint m (part 1 32 s) (part 33 32 s)))
         ⌝ }
 {
     if tables::find_name(names, count, log, at + 1) < count {

@@ -1,4 +1,5 @@
-// What document 01's rows decide on a record.
+// What the rows of document 01, and of the change requests, decide on a record.
+use links::LinkAnswer;
 use model::Height;
 use model::MAX_CHECKPOINTS;
 use model::Place;
@@ -11,28 +12,34 @@ ghost use mathlib.Core.List.{List};
 ghost use lib.ListN.{drop};
 ghost use Rattle.model.specs.Decide.{decide};
 ghost use Rattle.model.specs.Model.{Model};
-ghost use Rattle.state.specs.Reading.{outcomeOf};
+ghost use Rattle.state.specs.Reading.{outcomeOf, brief};
 ghost use Rattle.state.specs.Tables.{Held};
-ghost use Rattle.rules.specs.Decision.{decisionOf};
+ghost use Rattle.rules.specs.Decision.{decisionOf, BitsFit};
 ghost use Rattle.rules.specs.Fit.{Fit};
 
+pub mod bundles;
 pub mod checkpoints;
+pub mod links;
 pub mod members;
 pub mod votes;
 
 // What is decided on a record: nothing is there; a row refuses it; or what is to be held: a member's id and bond; the
-// place of a checkpoint's parent, and its own height; a vote's member, source and target.
+// place of a checkpoint's parent, and its own height; a vote's member, source and target. Of a bundle that is not
+// refused whole: how many votes it has, and what rows 31 to 34 make of their link.
 pub enum Decision {
     Nothing,
     Refuse(Refusal),
     Member(u16, u64),
     Checkpoint(Place, Height),
     Vote(u16, Place, Place),
+    Bundle(usize, LinkAnswer),
 }
 
 // What the record comes to by the decision.
 pub fn outcome_of(d: Decision) -> Outcome
-    ensures { λ r. ⌜ ((s : List ℕ) → outcomeOf r ≡ decisionOf s d .told) ⌝ }
+    ensures { λ r. ⌜
+        ((m : Model) (n : ℕ) (s : List ℕ) → BitsFit n s d → outcomeOf r ≡ brief (decisionOf m s d .told))
+        ⌝ }
 {
     match d {
         Decision::Nothing => Outcome::Nothing,
@@ -40,12 +47,13 @@ pub fn outcome_of(d: Decision) -> Outcome
         Decision::Member(_, _) => Outcome::Taken,
         Decision::Checkpoint(_, _) => Outcome::Taken,
         Decision::Vote(_, _, _) => Outcome::Taken,
+        Decision::Bundle(votes, _) => Outcome::Bundled(votes),
     }
 }
 
 // The record at `at`: row 4 where the kind is unknown (its size is 0, so it is never cut), row 5 where the log ends
-// before the record does, then the rows of the kind. The arrays are those of a sound witness; the votes come as numbers in chains, so that one is looked for
-// among few.
+// before the record does, then the rows of the kind. The arrays are those of a sound witness; the votes come as numbers
+// in chains, so that one is looked for among few.
 pub fn decide_record<'a>(
     counts: Counts,
     ids: &'a [u16],
@@ -62,7 +70,8 @@ pub fn decide_record<'a>(
     ensures { λ r. ⌜
         ((m : Model)
         → Held m counts (now (ids .entry)) (now (names .entry)) parents heights (now (keys .entry))
-        → decisionOf (drop at (now (log .entry))) r ≡ decide m (drop at (now (log .entry))))
+        → let s = drop at (now (log .entry)) in
+        (decisionOf m s r ≡ decide m s) × BitsFit (counts .members) s r)
         ⌝ }
 {
     if log.len() <= at {
@@ -90,6 +99,7 @@ pub fn decide_record<'a>(
             log,
             at,
         ),
-        0 | 4..=255 => Decision::Refuse(Refusal::UnknownKind),
+        5 => bundles::decide_bundle(counts, names, parents, heights, log, at),
+        0 | 4 | 6..=255 => Decision::Refuse(Refusal::UnknownKind),
     }
 }

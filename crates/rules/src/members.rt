@@ -21,7 +21,7 @@ pub fn decide_member(ids: &[u16], count: usize, fixed: bool, log: &[u8], at: usi
         → membersFixed m ≡ fixed
         → MembersHeld m (now (ids .entry)) count
         → let s = drop at (now (log .entry)) in
-        decisionOf s r ≡ single (decideMember m (record { id = field 1 2 s; bond = field 3 8 s })))
+        decisionOf m s r ≡ single (decideMember m (record { id = field 1 2 s; bond = field 3 8 s })))
         ⌝ }
 {
     if fixed {

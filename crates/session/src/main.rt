@@ -1047,6 +1047,12 @@ fn say_outcome(o: Outcome) -> bool {
             io::write_all(STDOUT_FILENO, b"taken\n");
             false
         }
+        Outcome::Bundled(n) => {
+            io::write_all(STDOUT_FILENO, b"bundle of ");
+            io::print_decimal(STDOUT_FILENO, n as u64);
+            io::write_all(STDOUT_FILENO, b"\n");
+            false
+        }
         Outcome::Refused(r) => {
             say_refused(r);
             false
@@ -1174,18 +1180,26 @@ fn say_list(w: Witness) {
     say_check(w, &buf);
 }
 
-// A batch of at most ten records: how many were passed, the ten rows, and why there were no more.
+// The first ten of some bytes.
+fn say_first(bytes: &[u8]) {
+    if bytes.len() < 10 {
+        return;
+    }
+    say_bytes(&bytes[..10]);
+}
+
+// A batch of at most ten records: how many were passed, the first ten entries, and why there were no more.
 fn say_batch(w: Witness, log: &[u8], at: usize) -> Batch {
-    let mut rows = [255u8; 10];
-    let batch = witness::read_many(w, log, at, &mut rows);
-    io::print_decimal(STDOUT_FILENO, batch.records as u64);
+    let mut rows = [255u8; 256];
+    let batch = witness::read_many(w, log, at, 10, &mut rows);
+    io::print_decimal(STDOUT_FILENO, batch.records);
     io::write_all(STDOUT_FILENO, b" records:");
-    say_bytes(&rows);
+    say_first(&rows);
     io::write_all(STDOUT_FILENO, b"; ");
     let end = batch.end;
     match end {
-        End::RowsUsed => {
-            io::write_all(STDOUT_FILENO, b"rows used\n");
+        End::Spent => {
+            io::write_all(STDOUT_FILENO, b"no more were asked for\n");
         }
         End::EndedBy(o) => {
             say_outcome(o);

@@ -2,7 +2,7 @@
 use Prim.Native.Nat.{ℕ, zero, suc, _*_, _<_, _^_}
 use native.Mathlib.Omega.{arith}
 use mathlib.Core.Path.{_≡_, refl, sym, ap, _∙_, subst}
-use mathlib.Core.List.{List, [], _∷_}
+use mathlib.Core.List.{List, [], _∷_, _++_}
 use lib.ListN.{getD, set, length-set}
 use lib.Seq.{length-paste}
 use Rattle.model.specs.Bytes.{AreBytes}
@@ -76,13 +76,19 @@ module _ (w : Witness) (typed : Typed w) where
       }
 
 -- and changes that fit one after the other
-changes-kept : (w : Witness) → Typed w → (cs : List Change) → FitAll (modelOf w) cs → Kept w cs
+pub changes-kept : (w : Witness) → Typed w → (cs : List Change) → FitAll (modelOf w) cs → Kept w cs
 unfolding storeAll appendAll
 changes-kept w typed [] fit = record { model = refl; typed = typed }
 changes-kept w typed (c ∷ cs) (one-change fits later) =
     let same = store-model w typed c fits in
     let rest = changes-kept (store w c) (store-typed w typed c fits) cs (subst (λ (m : Model). FitAll m cs) (sym same) later) in
     record { model = rest .model ∙ ap (λ (m : Model). appendAll m cs) same; typed = rest .typed }
+
+-- changes stored one after another
+pub store-both : (w : Witness) (xs ys : List Change) → storeAll w (xs ++ ys) ≡ storeAll (storeAll w xs) ys
+unfolding storeAll
+store-both w [] ys = refl
+store-both w (x ∷ xs) ys = store-both (store w x) xs ys
 
 -- what is read consists of bytes, and is added to what is held
 pub reading-kept : (w : Witness) → Typed w → (s : List ℕ) → AreBytes s → Kept w (decide (modelOf w) s .changes)

@@ -41,16 +41,21 @@ pub struct Counts {
     pub votes: usize,
 }
 
-// What reading a record comes to.
+// What reading a record comes to; of a bundle that is not refused whole, how many bits were set. What each of these
+// votes came to stands beside it.
 pub enum Outcome {
     Nothing,
     Taken,
+    Bundled(usize),
     Refused(Refusal),
 }
 
-// The outcome, the offset to go on from, and the witness as it is then.
+// The outcome; for each vote of a bundle, in rising member place, the number of the row that refused it or 0 (0 past
+// them, and where the record is no bundle or is refused whole); the offset to go on from; and the witness as it is
+// then.
 pub struct Reading {
     pub outcome: Outcome,
+    pub rows: [u8; MAX_MEMBERS],
     pub next: usize,
     pub witness: Witness,
 }

@@ -8,7 +8,7 @@ use lib.Dec.{ltb}
 use lib.ListN.{length, take, drop}
 use Rattle.state.specs.declared.Witness.{Witness}
 use Rattle.text.specs.Put.{Put}
-use Rattle.feeding.specs.Feed.{wants, Feeding, pausedAt, lineRoom, lastNumber, openCall, feedCall}
+use Rattle.feeding.specs.Feed.{wants, Feeding, pausedAt, recordRoom, lastNumber, openCall, feedCall}
 use Rattle.state.specs.Sound.{sound?}
 use Rattle.buffered.specs.Hold.{ready?}
 use Rattle.turns.specs.Turns.{fateOf, Refilled}
@@ -55,9 +55,10 @@ module _ (t : Turn) (input : List ℕ) where
     pub called : ready? (t .begun) (t .«at_end») atHand ≡ true → Called (callAt room) r after × ((r .fate ≡ fateAt room) ⊎ (r .fate ≡ Failed))
     pub read : ready? (t .begun) (t .«at_end») atHand ≡ false → Refilled t input r after
 
--- No call is missed: on bytes that are not worth one, a call with a sound witness, room for a line and a number left would want
--- more, and would have done nothing.
+-- No call is missed: on bytes that are not worth one, a call with a sound witness, room for the lines of any record and
+-- a number left would want more, and would have done nothing.
 abbrev pub CallWaits : Type 0
 CallWaits =
-    (begun : Bool) (room : ℕ) (w : Witness) (k : ℕ) (s : List ℕ) → sound? w ≡ true → lineRoom ≤ room → k < lastNumber → ready? begun false s ≡ false
+    (begun : Bool) (room : ℕ) (w : Witness) (k : ℕ) (s : List ℕ)
+    → sound? w ≡ true → recordRoom ≤ room → k < lastNumber → ready? begun false s ≡ false
     → callOf begun false room w k s ≡ pausedAt [] wants w (cond begun k 0)

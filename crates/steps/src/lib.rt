@@ -53,7 +53,7 @@ fn advance(t: Turn, input: &mut [u8], output: &mut [u8]) -> Turn
 
 // One turn: a call where the bytes at hand are worth one, and what it wrote is written out; else a read.
 pub fn step(fd: i32, t: Turn, lines: bool, input: &mut [u8], output: &mut [u8]) -> Turn
-    requires { ⌜ (t .have ≤ length (now input)) × (75 ≤ length (now input)) ⌝ }
+    requires { ⌜ (t .have ≤ length (now input)) × (89 ≤ length (now input)) ⌝ }
     ensures { λ r. ⌜ Stepped t (now (input .entry)) (length (now (output .entry))) r (now (input .exit)) ⌝ }
 {
     let have = t.have;

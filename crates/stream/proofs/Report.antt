@@ -15,7 +15,7 @@ use Rattle.model.specs.Log.{header}
 use Rattle.model.specs.Report.{report}
 use Rattle.state.specs.declared.Witness.{Witness}
 use Rattle.state.proofs.Started.{header-long}
-use Rattle.feeding.specs.Feed.{Paused, wants, full, outOfNumbers, ended, refusedBy, Feeding, pausedAt, lineRoom, headed, openCall, feedCall, endCall}
+use Rattle.feeding.specs.Feed.{Paused, wants, full, outOfNumbers, ended, refusedBy, Feeding, pausedAt, lineRoom, recordRoom, headed, openCall, feedCall, endCall}
 use Rattle.pieces.specs.Pieces.{Piece, onward, inWant?, fedText, lastPause, endPause}
 use Rattle.pieces.proofs.Pieces.{in-pieces}
 use Rattle.buffered.specs.Hold.{ready?, IsFilled}
@@ -231,7 +231,7 @@ module _ (t : Turn) (input : List ℕ) (room : ℕ) where
 -- on the log's first bytes
 module _
     (room : ℕ)
-    (roomy : lineRoom ≤ room)
+    (roomy : recordRoom ≤ room)
     {log text : List ℕ}
     {t r : Turn}
     {input after : List ℕ}
@@ -296,13 +296,13 @@ module _
         ∙ sym (append-nil (g .text))
         ∙ ap (λ (p : Paused). g .text ++ onward p [] (fedText 0 (g .witness) (g .records) (drop (g .passed) log) [])) (sym stops)
         ∙ in-pieces log bytes 0 (t .witness) (t .«at_end») (record { room = room; bytes = log }) [] (sym (append-nil log))
-        (⊎-elim (λ l. inl l) (λ l. inr (l, refl)) heads) roomy
+        (⊎-elim (λ l. inl l) (λ l. inr (l, refl)) heads) (omega (arith, roomy))
         (ap (λ (p : Paused). inWant? (onward p p (lastPause full (g .witness) (g .records) (drop (g .passed) log) []))) stops, ap (λ (p : Paused). inWant? (onward p p (endPause 0 (g .witness) (g .records) (drop (g .passed) log) []))) stops)
 
 -- on the records of a piece
 module _
     (room : ℕ)
-    (roomy : lineRoom ≤ room)
+    (roomy : recordRoom ≤ room)
     {log text : List ℕ}
     {t r : Turn}
     {input after : List ℕ}
@@ -369,7 +369,7 @@ module _
         ap (λ (l : List ℕ). l ++ fedText n (t .witness) (t .records) (goes .left) (p ∷ [])) (goes .wrote)
         ∙ append-assoc (o .text) (goes .fed) (fedText n (t .witness) (t .records) (goes .left) (p ∷ []))
         ∙ ap (λ (l : List ℕ). o .text ++ l) (sym (goes .went .text n (p ∷ [])) ∙ sym (goes-on false (o .paused) (goes .opens) [] _))
-        ∙ in-pieces log bytes n (goes .witness) (goes .last) (record { room = room; bytes = goes .first }) (goes .pieces ++ p ∷ []) fed-came (inl (goes .long)) roomy
+        ∙ in-pieces log bytes n (goes .witness) (goes .last) (record { room = room; bytes = goes .first }) (goes .pieces ++ p ∷ []) fed-came (inl (goes .long)) (omega (arith, roomy))
         (ap inWant? (goes-on false (o .paused) (goes .opens) (o .paused) _ ∙ goes .went .last full p []) ∙ last-had, ap inWant? (goes-on false (o .paused) (goes .opens) (o .paused) _ ∙ goes .went .end n (p ∷ [])) ∙ end-had)
 
     fed-ends : fateOf (t .«at_end») (f .paused) ≡ Ended → AreBytes log → text ++ callAt t input room .text ≡ report log
@@ -411,7 +411,7 @@ module _ {r y : Fate} (is : (r ≡ y) ⊎ (r ≡ Failed)) where
 
 module _
     (room : ℕ)
-    (roomy : lineRoom ≤ room)
+    (roomy : recordRoom ≤ room)
     {log text : List ℕ}
     {t r : Turn}
     {input after : List ℕ}
@@ -440,7 +440,7 @@ module _
 
 -- ---- turn after turn
 
-turn-stands : (room : ℕ) → lineRoom ≤ room → {log text log′ text′ : List ℕ} {t r : Turn} {input after : List ℕ} → Stands room log text t input → Turned room log text t input log′ text′ r after → Stands room log′ text′ r after
+turn-stands : (room : ℕ) → recordRoom ≤ room → {log text log′ text′ : List ℕ} {t r : Turn} {input after : List ℕ} → Stands room log text t input → Turned room log text t input log′ text′ r after → Stands room log′ text′ r after
 turn-stands room roomy {log} {text} {log′} {text′} {t} {r} {input} {after} stands turn = go (ready? (t .begun) (t .«at_end») (atHand t input)) refl
   where
     go : (b : Bool) → ready? (t .begun) (t .«at_end») (atHand t input) ≡ b → Stands room log′ text′ r after
@@ -451,7 +451,7 @@ turn-stands room roomy {log} {text} {log′} {text′} {t} {r} {input} {after} s
     go false e =
         read-stands room (turn .stepped .read e) (turn .came ∙ ap (λ (b : Bool). cond b log (log ++ drop (t .have) (atHand r after))) e) (turn .wrote ∙ ap (λ (b : Bool). cond b (text ++ callAt t input room .text) text) e) (stands .going) (turn .goes-on)
 
-reached-stands : (room : ℕ) → lineRoom ≤ room → {log text : List ℕ} {t : Turn} {input : List ℕ} → Reached room log text t input → Stands room log text t input
+reached-stands : (room : ℕ) → recordRoom ≤ room → {log text : List ℕ} {t : Turn} {input : List ℕ} → Reached room log text t input → Stands room log text t input
 reached-stands room roomy (at-start {t = t} {input = input} is) = starts room t input is
 reached-stands room roomy (one-more before turn) = turn-stands room roomy (reached-stands room roomy before) turn
 

@@ -6,7 +6,7 @@ use mathlib.Core.Bool.{false, cond}
 use lib.ListN.{take, drop}
 use Rattle.model.specs.Bytes.{AreBytes}
 use Rattle.model.specs.Report.{report}
-use Rattle.feeding.specs.Feed.{lineRoom, endCall}
+use Rattle.feeding.specs.Feed.{recordRoom, endCall}
 use Rattle.pieces.specs.Pieces.{inWant?}
 use Rattle.buffered.specs.Hold.{ready?}
 use Rattle.turns.specs.Turns.{Starts}
@@ -50,6 +50,7 @@ pub record IsRead (room : ℕ) (r : Log) : Type 0 where
 -- was read, they are that with the log's end, if the end finds room. That they are written out is tried, not proved.
 abbrev pub WritesReport : Type 0
 WritesReport =
-    (room : ℕ) (log text : List ℕ) (t : Turn) (input : List ℕ) → lineRoom ≤ room → AreBytes log → Reached room log text t input
+    (room : ℕ) (log text : List ℕ) (t : Turn) (input : List ℕ)
+    → recordRoom ≤ room → AreBytes log → Reached room log text t input
     → (t .fate ≡ Ended → text ≡ report log)
     × ((last : ℕ) → t .fate ≡ Whole → inWant? (endCall last (t .witness) (t .records) (t .have) .paused) ≡ false → text ++ endCall last (t .witness) (t .records) (t .have) .text ≡ report log)

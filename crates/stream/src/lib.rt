@@ -21,7 +21,7 @@ pub struct Log {
 // Turn after turn, to the log's end or its stop. A proved loop has to end, and nothing says that a file does: so it
 // counts down from a number that no run uses up.
 fn read_pieces(fd: i32, lines: bool, input: &mut [u8], output: &mut [u8]) -> Turn
-    requires { ⌜ 75 ≤ length (now input) ⌝ }
+    requires { ⌜ 89 ≤ length (now input) ⌝ }
     ensures { λ r. ⌜ Reads (length (now (output .entry))) r (now (input .exit)) ⌝ }
 {
     let mut t = turns::start();

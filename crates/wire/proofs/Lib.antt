@@ -1,3 +1,4 @@
 pub mod Parts
+pub mod SetPlaces
 pub mod Digits
 pub mod Compare

@@ -2,9 +2,10 @@
 use Prim.Native.Nat.{ℕ, _+_}
 use native.Mathlib.Nat.{add-zero}
 use mathlib.Core.Path.{_≡_, refl, sym, ap, _∙_}
-use mathlib.Core.List.{List}
+use mathlib.Core.List.{List, flatMap}
 use mathlib.Core.Bool.{Bool, true, false, cond, not}
 use borrow.Author.Tests.{not-true, not-false}
+use lib.ListN.{replicate}
 use Rattle.model.specs.Answer.{Answer, refused, answer, row, andThen}
 use Rattle.model.specs.Change.{Decision, single}
 use Rattle.model.specs.Decide.{decide}
@@ -12,7 +13,7 @@ use Rattle.model.specs.Log.{recordLength}
 use Rattle.model.specs.Model.{Model}
 use Rattle.model.specs.Run.{Event, reading, decideEvent}
 use Rattle.model.specs.declared.Refusal.the-variants.{UnsoundState}
-use Rattle.state.specs.Reading.{IsReading}
+use Rattle.state.specs.Reading.{brief, rowsOfVotes, padded, IsReading}
 use Rattle.state.specs.Sound.{Typed, Sound, sound?}
 use Rattle.state.specs.State.{modelOf, storeAll, stored}
 use Rattle.state.specs.declared.Outcome.the-variants.{Nothing, Refused}
@@ -69,24 +70,36 @@ module _ (w : Witness) (s : List ℕ) (at : ℕ) where
   unfolding passed
   passed-is e = ap (λ (b : Bool). at + cond b (recordLength s) 0) (sym e)
 
-  pub unsound-reading : sound? w ≡ false → IsReading w (eventCall w (reading s)) (at + passed w s) (record { outcome = Refused UnsoundState; next = at; witness = w })
-  unfolding single storeAll
+  pub unsound-reading : sound? w ≡ false → IsReading w (eventCall w (reading s)) (at + passed w s) (record { outcome = Refused UnsoundState; rows = replicate 128 0; next = at; witness = w })
+  unfolding single storeAll brief rowsOfVotes
   unsound-reading e =
       let d = sym (unsound-event w (reading s) e) in
-      record { outcome = ap (λ (x : Decision). x .told) d; next = sym (add-zero at) ∙ passed-is e; witness = ap (stored w) d }
+      record {
+        outcome = ap (λ (x : Decision). brief (x .told)) d;
+        rows = ap (λ (x : Decision). padded (rowsOfVotes (x .told))) d;
+        next = sym (add-zero at) ∙ passed-is e;
+        witness = ap (stored w) d;
+      }
 
   pub sound-reading : {r : Reading} → sound? w ≡ true → IsReading w (decide (modelOf w) s) (at + recordLength s) r → IsReading w (eventCall w (reading s)) (at + passed w s) r
   unfolding decideEvent
   sound-reading e i =
       let d = sym (sound-event w (reading s) e) in
-      record { outcome = i .outcome ∙ ap (λ (x : Decision). x .told) d; next = i .next ∙ passed-is e; witness = i .witness ∙ ap (stored w) d }
+      record {
+        outcome = i .outcome ∙ ap (λ (x : Decision). brief (x .told)) d;
+        rows = i .rows ∙ ap (λ (x : Decision). padded (rowsOfVotes (x .told))) d;
+        next = i .next ∙ passed-is e;
+        witness = i .witness ∙ ap (stored w) d;
+      }
 
 -- reading on, by row 40
-module _ (n : ℕ) (w : Witness) (log : List ℕ) (at : ℕ) where
-  pub many-sound : sound? w ≡ true → {before after : List ℕ} {r : Batch} → IsBatch (readMany n w log at) before r after → IsBatch (manyCall n w log at) before r after
+module _ (n room : ℕ) (w : Witness) (log : List ℕ) (at : ℕ) where
+  pub many-sound : sound? w ≡ true → {before after : List ℕ} {r : Batch} → IsBatch (readMany n room w log at) before r after
+      → IsBatch (manyCall n room w log at) before r after
   unfolding manyCall
   many-sound e is = rw e is
 
-  pub many-unsound : sound? w ≡ false → (rows : List ℕ) → IsBatch (manyCall n w log at) rows (record { end = EndedBy (Refused UnsoundState); last = Nothing; next = at; records = 0; witness = w }) rows
-  unfolding manyCall lastTold
-  many-unsound e rows = rw e (record { end = refl; last = refl; next = refl; records = refl; witness = refl; rows = refl })
+  pub many-unsound : sound? w ≡ false → (rows : List ℕ)
+      → IsBatch (manyCall n room w log at) rows (record { end = EndedBy (Refused UnsoundState); last = Nothing; next = at; records = 0; used = 0; witness = w }) rows
+  unfolding manyCall lastTold brief flatMap
+  many-unsound e rows = rw e (record { end = refl; last = refl; next = refl; records = refl; used = refl; witness = refl; rows = refl })

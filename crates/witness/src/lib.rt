@@ -1,6 +1,7 @@
 // The public calls of the witness. None asks anything of its caller: what is handed in is checked.
 use checker::CheckAnswer;
 use finality::Backing;
+use model::MAX_MEMBERS;
 use model::Place;
 use model::Refusal;
 use model::Status;
@@ -53,8 +54,8 @@ pub fn begin(w: Witness, log: &[u8]) -> Beginning
     state::begin(w, log)
 }
 
-// Reading the record at an offset of a log: row 40, then 4, 5 and 10 to 36; nothing left at or past the end. A refusal
-// leaves the state as it was.
+// Reading the record at an offset of a log: row 40, then 4, 5 and those of its kind; nothing left at or past the end. A
+// refusal leaves the state as it was. Of a bundle that is not refused whole, what each of its votes came to is told.
 pub fn read(w: Witness, log: &[u8], at: usize) -> Reading
     ensures { λ r. ⌜
         (let s = drop at (now (log .entry)) in IsReading w (eventCall w (reading s)) (at + passed w s) r)
@@ -63,6 +64,7 @@ pub fn read(w: Witness, log: &[u8], at: usize) -> Reading
     if !sound::is_sound(w) {
         return Reading {
             outcome: Outcome::Refused(Refusal::UnsoundState),
+            rows: [0u8; MAX_MEMBERS],
             next: at,
             witness: w,
         };
@@ -70,12 +72,14 @@ pub fn read(w: Witness, log: &[u8], at: usize) -> Reading
     log_reader::read_record(w, log, at)
 }
 
-// Reading the records from an offset on, to the log's end or its stop, or as many as there are bytes lent in `rows`:
-// row 40, once, then each record in turn. A record's byte gets the number of the row of the table that refused it, or
-// 0. A record that cannot be passed, and row 40, are told in `end`.
-pub fn read_many(w: Witness, log: &[u8], at: usize, rows: &mut [u8]) -> Batch
+// Reading the records from an offset on, to the log's end or its stop, at most `limit`, while 128 of the bytes lent in
+// `rows` are free: row 40, once, then each record in turn. A record's byte gets the number of the row of the table that
+// refused it, or 0; a bundle that is not refused whole has such a byte for each of its votes, with 128 added to all but
+// the first. A record that cannot be passed, and row 40, are told in `end`; so are a limit and room that are spent.
+pub fn read_many(w: Witness, log: &[u8], at: usize, limit: u64, rows: &mut [u8]) -> Batch
     ensures { λ r. ⌜
-        IsBatch (manyCall (length (now (rows .entry))) w (now (log .entry)) at) (now (rows .entry)) r (now (rows .exit))
+        IsBatch (manyCall limit (length (now (rows .entry))) w (now (log .entry)) at) (now (rows .entry)) r
+        (now (rows .exit))
         ⌝ }
 {
     if !sound::is_sound(w) {
@@ -84,10 +88,11 @@ pub fn read_many(w: Witness, log: &[u8], at: usize, rows: &mut [u8]) -> Batch
             last: Outcome::Nothing,
             next: at,
             records: 0,
+            used: 0,
             witness: w,
         };
     }
-    log_reader::read_from(w, log, at, rows)
+    log_reader::read_from(w, log, at, limit, rows)
 }
 
 // Checking a list of charges: row 40, then 50 to 57 entry by entry; else the sum of the named bonds.

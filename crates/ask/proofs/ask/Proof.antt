@@ -35,18 +35,18 @@ returns c =
     let l = c .before .before .before in
     let s = l .before .before .before in
     let told = s .before in
-    let b = told .before .before .before .before in
+    let b = told .before .before .before .before .before in
     let start = b .before .before .before in
     let a = start .before .args in
     let bytes : AreBytes (a .log .now) = λ i h. start .shared-slice-known .given i .fits in (
-      answers-begun (a .w) (a .log .now) (a .limit) (b .replay .result) (b .replay .ensures) (a .p .0) (a .theirs .now) (a .buf .now) bytes (told .enum-told .given .1) _ refl refl (s .status .ensures)
+      answers-begun (a .w) (a .log .now) (a .limit) (b .replay .result) (b .replay .ensures) (a .p .0) (a .theirs .now) (a .buf .now) bytes (told .enum-told .given .1) _ refl refl refl (s .status .ensures)
           (l .before .before .conflict .ensures) (l .write-list .ensures .0) (c .check-list .ensures),
       l .write-list .ensures .1 ∙ buffer-begun (a .w) (a .log .now) (a .limit) (b .replay .result) (b .replay .ensures) (a .buf .now) bytes (told .enum-told .given .1),
     )
 
 returns-2 : tie.Need-returns-2
 returns-2 c =
-    let b = c .before .before .before .before .before in
+    let b = c .before .before .before .before .before .before in
     let a = b .before .before .before .before .args in (
       answers-refused (a .w) (a .log .now) (a .limit) (b .replay .result) (b .replay .ensures) (a .p .0) (a .theirs .now) (a .buf .now) _ (c .before .start .given .1),
       buffer-refused (a .w) (a .log .now) (a .limit) (b .replay .result) (b .replay .ensures) (a .buf .now) _ (c .before .start .given .1),

@@ -1,7 +1,7 @@
 -- `codes::tell` meets its contract, case by case. Assumes nothing.
 use mathlib.Core.Path.{refl}
-use Rattle.codes.proofs.Told.{told-as}
 use borrow.Author.Needs.{needs}
+use Rattle.codes.proofs.Told.{told-as}
 use Rattle.codes.proofs.tell.Statement.{statement}
 use Rattle.codes.proofs.tell.Tie as tie
 
@@ -14,6 +14,9 @@ enum-told-2 c = search needs
 enum-known-o : tie.Need-enum-known-o
 enum-known-o c = search needs
 
+enum-known-o-2 : tie.Need-enum-known-o-2
+enum-known-o-2 c = search needs
+
 number-requires : tie.Need-number-requires
 number-requires c κs = search needs
 
@@ -24,9 +27,21 @@ returns-2 : tie.Need-returns-2
 returns-2 c = search needs
 
 returns-3 : tie.Need-returns-3
-returns-3 c = told-as _ _ _ _ (c .before .before .o .given .1) (c .number .ensures) refl
+returns-3 c = search needs
+
+returns-4 : tie.Need-returns-4
+returns-4 c = told-as _ _ _ _ _ (c .before .before .o2 .given .1) (c .number .ensures) refl refl
 
 pub tell-spec : {M : Type 1} → statement M
 tell-spec =
     tie.close
-    (tie.spec enum-told enum-told-2 enum-known-o number-requires returns returns-2 returns-3)
+    (tie.spec
+    enum-told
+    enum-told-2
+    enum-known-o
+    enum-known-o-2
+    number-requires
+    returns
+    returns-2
+    returns-3
+    returns-4)

@@ -21,12 +21,6 @@ stopped-line-requires c κs = search needs
 same-length : tie.Need-same-length
 same-length c = search needs
 
-enum-told : tie.Need-enum-told
-enum-told c = search needs
-
-enum-told-2 : tie.Need-enum-told-2
-enum-told-2 c = search needs
-
 returns : tie.Need-returns
 returns c =
     let stopped = c .before .before in
@@ -36,6 +30,15 @@ returns c =
     paused-fed (a .w) (a .k) (a .next) (a .at) _ (a .buf .now) _ Ended
     (halted-ends (a .w) (a .k) _ (ap outcomeOf (o .o .given .1)) (sym (then .before .refusal-number .ensures) ∙ then .if1 .taken))
     (stopped .stopped-line .ensures .0)
+
+enum-told : tie.Need-enum-told
+enum-told c = search needs
+
+enum-told-2 : tie.Need-enum-told-2
+enum-told-2 c = search needs
+
+enum-told-3 : tie.Need-enum-told-3
+enum-told-3 c = search needs
 
 returns-2 : tie.Need-returns-2
 returns-2 c =
@@ -60,6 +63,13 @@ returns-4 c =
     paused-fed (a .w) (a .k) (a .next) (a .at) _ (a .buf .now) _ Wants (halted-none (a .w) (a .k) (ap outcomeOf (c .enum-told2 .given .1)))
     (none (a .buf .now) (a .at) (omega (arith, start .pre)))
 
+returns-5 : tie.Need-returns-5
+returns-5 c =
+    let start = c .before .before .before in
+    let a = start .args in
+    paused-fed (a .w) (a .k) (a .next) (a .at) _ (a .buf .now) _ Wants (halted-none (a .w) (a .k) (ap outcomeOf (c .enum-told3 .given .1)))
+    (none (a .buf .now) (a .at) (omega (arith, start .pre)))
+
 pub halt-spec : {M : Type 1} → statement M
 halt-spec =
     tie.close
@@ -71,6 +81,8 @@ halt-spec =
     returns
     enum-told
     enum-told-2
+    enum-told-3
     returns-2
     returns-3
-    returns-4)
+    returns-4
+    returns-5)

@@ -7,11 +7,10 @@ use mathlib.Core.List.{List}
 use lib.ListN.{length, take, drop, length-append, take-append-drop}
 use lib.Seq.{length-take-le}
 use borrow.Author.Needs.{needs}
-use Rattle.model.specs.Answer.{answer}
-use Rattle.model.specs.Change.{nothingLeft}
 use Rattle.text.proofs.Putting.{kept}
 use Rattle.feeding.specs.Feed.{feedFrom, lastNumber}
-use Rattle.feeding.proofs.Onward.{Sofar, none-yet, end-inside, room-and-number, spent-here, May, few-records, rows-long, batch-here, room-left, halted-last}
+use Rattle.feeding.proofs.Onward.{Sofar, none-yet, end-inside, room-and-number, spent-here, May, few-records, few-entries}
+use Rattle.feeding.proofs.Onward.{rows-long, numbers, batch-here, some-passed, room-left, halted-last}
 use Rattle.feeding.proofs.read_on.Statement.{statement}
 use Rattle.feeding.proofs.read_on.Tie as tie
 
@@ -34,18 +33,18 @@ sub-loop c = end-inside (c .loop .inv .1)
 sub-batch : tie.Need-sub-batch Inv-loop μ-loop
 sub-batch c = end-inside (c .before .loop .inv .1)
 
-sub-batch-2 : tie.Need-sub-batch-2 Inv-loop μ-loop
-sub-batch-2 c = c .before .loop .inv .1 .numbered
-
 batch-requires : tie.Need-batch-requires Inv-loop μ-loop
-batch-requires c κs = let l = c .before .loop in let test = room-and-number (length (l .buf) - l .end) (l .k) (c .loop-test .taken) in (test .0, omega (arith, test .1))
+batch-requires c κs = room-and-number (length (c .before .loop .buf) - c .before .loop .end) (c .before .loop .k) (c .loop-test .taken) .0
+
+sub-read-from : tie.Need-sub-read-from Inv-loop μ-loop
+sub-read-from c = omega (arith, c .before .before .loop .inv .1 .numbered)
 
 array-borrow-prefix-rows : tie.Need-array-borrow-prefix-rows Inv-loop μ-loop
 array-borrow-prefix-rows c = omega (arith, c .batch .ensures .1, c .before .before .loop .inv .0)
 
 -- ---- the batch that was read
 
--- the reading whose rows became these lines
+-- the reading whose entries became these lines
 abbrev read : tie.After-refused-lines Inv-loop μ-loop → tie.After-read-from Inv-loop μ-loop
 read c = c .before .before .before .before .before
 
@@ -59,15 +58,16 @@ lent c = take (c .before .batch .result) (test c .before .loop .rows)
 lent-long : (c : tie.After-rows Inv-loop μ-loop) → length (lent c) ≡ c .before .batch .result
 lent-long c = length-take-le (c .before .batch .result) (test c .before .loop .rows) (omega (arith, c .before .batch .ensures .1, test c .before .loop .inv .0))
 
--- each record that may be read has room and a number
+-- each entry that may be written has room
 may : (c : tie.After-rows Inv-loop μ-loop)
     → let l = test c .before .loop in
     May (test c .before .before .before .before .args .log .now) (l .buf) (l .k) (l .end) (length (lent c))
 may c =
+    let l = test c .before .loop in
     record {
       bytes = λ i h. test c .before .before .before .shared-slice-known .given i .fits;
       room = omega (arith, lent-long c, c .before .batch .ensures .2);
-      numbers = omega (arith, lent-long c, c .before .batch .ensures .3);
+      number = room-and-number (length (l .buf) - l .end) (l .k) (test c .loop-test .taken) .1;
     }
 
 slice-aggregate-read-from : tie.Need-slice-aggregate-read-from Inv-loop μ-loop
@@ -76,8 +76,8 @@ slice-aggregate-read-from c = sym (lent-long c)
 read-from-requires : tie.Need-read-from-requires Inv-loop μ-loop
 read-from-requires c κs = test c .before .loop .inv .1 .sound
 
-few : (c : tie.After-read-from Inv-loop μ-loop) → c .read-from .result .records ≤ c .before .before .batch .result
-few c = omega (arith, few-records (test (c .before) .before .loop .inv .1) (may (c .before)) (c .read-from .ensures), lent-long (c .before))
+few : (c : tie.After-read-from Inv-loop μ-loop) → c .read-from .result .used ≤ c .before .before .batch .result
+few c = omega (arith, few-entries (test (c .before) .before .loop .inv .1) (may (c .before)) (c .read-from .ensures), lent-long (c .before))
 
 -- the rows that were not lent
 abbrev others : tie.After-rows Inv-loop μ-loop → List ℕ
@@ -100,51 +100,63 @@ refused-lines-requires c κs =
     let r = c .before .before .before .before in
     let q = r .before in
     let l = test q .before .loop in
-    let count = slice-aggregate-refused-lines c in
-    (omega (arith, count, few r, lent-long q, may q .room, end-inside (l .inv .1)), omega (arith, count, few r, lent-long q, may q .numbers, l .inv .1 .numbered))
+    let so = l .inv .1 in (
+      omega (arith, slice-aggregate-refused-lines c, few r, lent-long q, may q .room, end-inside so),
+      omega (arith, numbers so (may q) (r .read-from .ensures) (others q), few-records so (may q) (r .read-from .ensures), so .numbered),
+    )
 
 add-k : tie.Need-add-k Inv-loop μ-loop
 add-k c =
-    let r = read (c .before .before) in
+    let r = read (c .before .before .before) in
     let q = r .before in
-    omega (arith, few r, lent-long q, may q .numbers, test q .before .loop .inv .1 .numbered)
+    let so = test q .before .loop .inv .1 in
+    omega (arith, few-records so (may q) (r .read-from .ensures), so .numbered)
 
-ended-by-requires : tie.Need-ended-by-requires Inv-loop μ-loop
-ended-by-requires c κs = search needs
+enum-known-ended : tie.Need-enum-known-ended Inv-loop μ-loop
+enum-known-ended c = search needs
 
 halt-requires : tie.Need-halt-requires Inv-loop μ-loop
 halt-requires c κs =
-    let then = c .before .before in
-    let l = then .before .before .before in
+    let e = c .before .before in
+    let l = c .before .before .before .before .before .before .before in
     let r = read l in
     let q = r .before in
     let so = test q .before .loop .inv .1 in
-    let room = room-left so (may q) (r .read-from .ensures) (others q) (l .refused-lines .ensures .0) (omega (arith, then .if1 .taken, lent-long q)) in
+    let room = room-left so (may q) (r .read-from .ensures) (others q) (l .refused-lines .ensures .0) _ (e .ended .given .1) in
     omega (arith, room, end-inside (batch-here so (may q) (r .read-from .ensures) (others q) (l .refused-lines .ensures .0)))
 
 returns : tie.Need-returns Inv-loop μ-loop
 returns c =
     let h = c .before .before in
-    let e = h .before .before in
-    let then = e .before in
-    let l = then .before .before .before in
+    let e = h .before .before .before in
+    let l = h .before .before .before .before .before .before .before .before in
     let r = read l in
     let q = r .before in
-    halted-last (test q .before .loop .inv .1) (may q) (r .read-from .ensures) (others q) (l .refused-lines .ensures .0) (omega (arith, then .if1 .taken, lent-long q))
-    (e .ended-by .result) (answer nothingLeft) (e .ended-by .ensures) (h .halt .ensures)
+    halted-last (test q .before .loop .inv .1) (may q) (r .read-from .ensures) (others q) (l .refused-lines .ensures .0) _ (e .ended .given .1) (h .halt .ensures)
 
 same-length : tie.Need-same-length Inv-loop μ-loop
 same-length c = kept (returns c .text)
 
+enum-told : tie.Need-enum-told Inv-loop μ-loop
+enum-told c = search needs
+
 loop-less : tie.Need-loop-less Inv-loop μ-loop
 loop-less c =
-    let r = read (c .before .before .before) in
+    let l = c .before .before .before .before .before in
+    let r = read l in
     let q = r .before in
-    omega (arith, c .if1 .left, few r, q .before .batch .ensures .0, q .before .batch .ensures .3)
+    let so = test q .before .loop .inv .1 in
+    omega (
+      arith,
+      lent-long q,
+      q .before .batch .ensures .0,
+      few-records so (may q) (r .read-from .ensures),
+      some-passed so (may q) (r .read-from .ensures) (others q) (l .refused-lines .ensures .0) (omega (arith, lent-long q, q .before .batch .ensures .0)) (c .enum-told .given .1),
+    )
 
 loop-again : tie.Need-loop-again Inv-loop μ-loop
 loop-again c =
-    let l = c .before .before .before in
+    let l = c .before .before .before .before .before in
     let r = read l in
     let q = r .before in
     let so = test q .before .loop .inv .1 in
@@ -171,8 +183,8 @@ read-on-spec =
     loop-holds
     sub-loop
     sub-batch
-    sub-batch-2
     batch-requires
+    sub-read-from
     array-borrow-prefix-rows
     slice-aggregate-read-from
     read-from-requires
@@ -180,10 +192,11 @@ read-on-spec =
     slice-aggregate-refused-lines
     refused-lines-requires
     add-k
-    ended-by-requires
+    enum-known-ended
     halt-requires
     same-length
     returns
+    enum-told
     loop-less
     loop-again
     sub-why-spent

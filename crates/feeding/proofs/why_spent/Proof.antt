@@ -7,10 +7,10 @@ use Rattle.feeding.proofs.why_spent.Statement.{statement}
 use Rattle.feeding.proofs.why_spent.Tie as tie
 
 returns : tie.Need-returns
-returns c = ap (λ (b : Bool). cond b full outOfNumbers) (sym (lt-ltb _ 64 (c .if1 .taken)))
+returns c = ap (λ (b : Bool). cond b full outOfNumbers) (sym (lt-ltb _ 8192 (c .if1 .taken)))
 
 returns-2 : tie.Need-returns-2
-returns-2 c = ap (λ (b : Bool). cond b full outOfNumbers) (sym (le-ltb _ 64 (c .if1 .left)))
+returns-2 c = ap (λ (b : Bool). cond b full outOfNumbers) (sym (le-ltb _ 8192 (c .if1 .left)))
 
 pub why-spent-spec : {M : Type 1} → statement M
 why-spent-spec = tie.close (tie.spec returns returns-2)

@@ -1,6 +1,6 @@
 -- `ffi::ffw_read` meets its contract: the outcome of the reading, told in numbers. Assumes nothing.
 use mathlib.Core.Path.{ap, _∙_}
-use Rattle.codes.specs.Numbers.{refusalOf, valueOf, toldNumber}
+use Rattle.codes.specs.Numbers.{refusalOf, valueOf, takenNumber, votesNumber}
 use borrow.Author.Needs.{needs}
 use Rattle.ffi.proofs.ffw_read.Statement.{statement}
 use Rattle.ffi.proofs.ffw_read.Tie as tie
@@ -13,11 +13,13 @@ tell-requires c κs = search needs
 
 returns : tie.Need-returns
 returns c =
-    let is = c .before .before .read .ensures in
+    let is = c .before .before .before .read .ensures in
     let told = c .tell .ensures in
     record {
       refused = told .refused ∙ ap refusalOf (is .outcome);
-      taken = told .taken ∙ ap (valueOf toldNumber) (is .outcome);
+      taken = told .taken ∙ ap (valueOf takenNumber) (is .outcome);
+      votes = told .votes ∙ ap (valueOf votesNumber) (is .outcome);
+      rows = is .rows;
       next = is .next;
       witness = is .witness;
     }

@@ -7,7 +7,7 @@ use Rattle.ffw_dump.proofs.dump_log.Statement.{statement}
 use Rattle.ffw_dump.proofs.dump_log.Tie as tie
 
 abbrev Inv-loop : tie.InvT-loop
-Inv-loop input₀ out₀ t₀ turns₀ input out t turns = (t .have ≤ length input) × (75 ≤ length input) × (256 ≤ length out) × (length input ≡ length input₀) × (length out ≡ length out₀)
+Inv-loop input₀ out₀ t₀ turns₀ input out t turns = (t .have ≤ length input) × (89 ≤ length input) × (256 ≤ length out) × (length input ≡ length input₀) × (length out ≡ length out₀)
 
 abbrev μ-loop : tie.MeasureT-loop
 μ-loop input₀ out₀ t₀ turns₀ input out t turns = turns

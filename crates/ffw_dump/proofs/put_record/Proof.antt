@@ -18,6 +18,10 @@ put-vote-requires : tie.Need-put-vote-requires
 unfolding recordSize sizeOf kindOf
 put-vote-requires c κs = let start = c .before .before .before .before in (omega (arith, ap recordSize (c .before .match .keys3), start .pre .0), start .pre .1)
 
+put-bundle-requires : tie.Need-put-bundle-requires
+unfolding recordSize sizeOf kindOf
+put-bundle-requires c κs = let start = c .before .before .before .before in (omega (arith, ap recordSize (c .before .match .keys4), start .pre .0), start .pre .1)
+
 slice-aggregate-put-field : tie.Need-slice-aggregate-put-field
 slice-aggregate-put-field c = search needs
 
@@ -51,6 +55,12 @@ same-length-4 c = search needs
 returns-4 : tie.Need-returns-4
 returns-4 c = search needs
 
+same-length-5 : tie.Need-same-length-5
+same-length-5 c = search needs
+
+returns-5 : tie.Need-returns-5
+returns-5 c = search needs
+
 pub put-record-spec : {M : Type 1} → statement M
 put-record-spec =
     tie.close
@@ -58,6 +68,7 @@ put-record-spec =
     put-member-requires
     put-checkpoint-requires
     put-vote-requires
+    put-bundle-requires
     slice-aggregate-put-field
     wide-requires
     put-field-requires
@@ -68,4 +79,6 @@ put-record-spec =
     same-length-3
     returns-3
     same-length-4
-    returns-4)
+    returns-4
+    same-length-5
+    returns-5)

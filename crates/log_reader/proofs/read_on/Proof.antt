@@ -27,8 +27,8 @@ use sound.WpLaws.{FmC, fmOf, WpFn-mono}
 use denote.RattleType.{owns}
 use denote.Laws.{Is, Typed, shows}
 use denote.Memory.{mem, cellAt}
-use denote.Plain.{uint-makes}
-use denote.Builtin.{u8, usize}
+use denote.Plain.{uint-vals, uint-tells, uint-makes}
+use denote.Builtin.{u8, u64, usize}
 use denote.Ref.{RefT, MutRef, now, ptr-vals, mut-tells}
 use denote.Signature.{Slot, plain, namedLft}
 use denote.Slice.{sliceVal, ShrSlice, MutSlice, Room, finally, slice-vals, mut-slice-tells}
@@ -71,14 +71,14 @@ abbrev behind : Slot 3
 behind = plain (λ κs. T.the-row (namedLft 3 1 tt κs))
 
 abbrev stayed : Stays (read-on.ended .signature .params) (read-on.ended .kept)
-stayed = (stay-ref (0 ∷ []) tt behind, (stay-none (λ _. S.the-row) yes, (gave-slice (2 ∷ []) tt (plain (λ _. u8)), tt)))
+stayed = (stay-ref (0 ∷ []) tt behind, (stay-none (λ _. S.the-row) yes, (stay-none (λ _. u64) yes, (gave-slice (2 ∷ []) tt (plain (λ _. u8)), tt))))
 
 module _ {M : Type 1} (𝓤 : URA M) (H : Heap 𝓤) (A : Atoms 𝓤) (at-mem : Memory → SProp 𝓤) (run : Routine → Fun 𝓤) where
   -- the contract that the proof cites
   abbrev Read : Contract 𝓤
   Read = tripleOf 𝓤 H A read.signature (read.spec 𝓤 H A at-mem run)
 
-module _ {M : Type 1} (𝓤 : URA M) (H : Heap 𝓤) (A : Atoms 𝓤) (W : Given 𝓤 H A) (at-mem : Memory → SProp 𝓤) (run : Routine → Fun 𝓤) (κ κ′ κ″ : Lft) (q q′ q″ : Share) (bounds : AllOutlive 3 (read-on.signature .outlives) (κ, (κ′, (κ″, tt)))) (b o : ℕ) (γ : GName) (h : LogReader) (w : Witness) (mw : Val) (rows : RefT (List ℕ)) (sound : Sound w) where
+module _ {M : Type 1} (𝓤 : URA M) (H : Heap 𝓤) (A : Atoms 𝓤) (W : Given 𝓤 H A) (at-mem : Memory → SProp 𝓤) (run : Routine → Fun 𝓤) (κ κ′ κ″ : Lft) (q q′ q″ : Share) (bounds : AllOutlive 3 (read-on.signature .outlives) (κ, (κ′, (κ″, tt)))) (b o : ℕ) (γ : GName) (h : LogReader) (w : Witness) (mw : Val) (limit : ℕ) (small : limit < 2 ^ 64) (rows : RefT (List ℕ)) (sound : Sound w) where
   -- the rows lent, and the machine values of them and of the log
   abbrev ys : List ℕ
   ys = now rows
@@ -94,13 +94,13 @@ module _ {M : Type 1} (𝓤 : URA M) (H : Heap 𝓤) (A : Atoms 𝓤) (W : Given
   moved n = record { log = h .log; at = n }
 
   abbrev Arg : Type 0
-  Arg = RefT LogReader × (Witness × (RefT (List ℕ) × Unit {0}))
+  Arg = RefT LogReader × (Witness × (ℕ × (RefT (List ℕ) × Unit {0})))
 
   abbrev a : Arg
-  a = (record { ptr = (b, o); name = γ; now = h }, (w, (rows, tt)))
+  a = (record { ptr = (b, o); name = γ; now = h }, (w, (limit, (rows, tt))))
 
   abbrev vals : Vals read-on.signature (κ, (κ′, (κ″, tt)))
-  vals = (vptr b o ∷ [], (mw ∷ [], (s ∷ [], tt)))
+  vals = (vptr b o ∷ [], (mw ∷ [], (vint w64 limit ∷ [], (s ∷ [], tt))))
 
   abbrev Post : Val → SProp 𝓤
   Post = walkOf 𝓤 H A read-on.ended stayed (read-on.clauses 𝓤 H A at-mem run) .post (((κ, (κ′, (κ″, tt))), (q, (q′, (q″, tt))), bounds, a, vals), tt)
@@ -124,25 +124,26 @@ module _ {M : Type 1} (𝓤 : URA M) (H : Heap 𝓤) (A : Atoms 𝓤) (W : Given
 
   -- what the callee is passed
   abbrev passed : Vals read.signature (κ′, (κ″, tt))
-  passed = (mw ∷ [], (v ∷ [], (vint w64 (h .at) ∷ [], (s ∷ [], tt))))
+  passed = (mw ∷ [], (v ∷ [], (vint w64 (h .at) ∷ [], (vint w64 limit ∷ [], (s ∷ [], tt)))))
 
   abbrev to : Read 𝓤 H A at-mem run .Ghost
-  to = (((κ′, (κ″, tt)), (q′, (q″, tt)), tt, (w, (h .log, (h .at, (rows, tt)))), passed), tt)
+  to = (((κ′, (κ″, tt)), (q′, (q″, tt)), tt, (w, (h .log, (h .at, (limit, (rows, tt))))), passed), tt)
 
-  asked : ent 𝓤 (onEntry 𝓤 H A read.signature (κ′, (κ″, tt)) (q′, (q″, tt)) (w, (h .log, (h .at, (rows, tt)))) passed) (Read 𝓤 H A at-mem run .pre to)
-  asked = qed W ((‵ (flft κ′ q′) ⊛ ‵ (flft κ″ q″) ⊛ ‵ ftrue) ∷ ‵ (owns (S.the-row ∷ ShrSlice (named 0) κ′ u8 ∷ usize ∷ MutSlice (named 1) κ″ u8 ∷ []) (w, (h .log, (h .at, (rows, tt)))) passed) ∷ []) ∵ says ! sound $ frame ! $ done !
+  asked : ent 𝓤 (onEntry 𝓤 H A read.signature (κ′, (κ″, tt)) (q′, (q″, tt)) (w, (h .log, (h .at, (limit, (rows, tt))))) passed) (Read 𝓤 H A at-mem run .pre to)
+  asked = qed W ((‵ (flft κ′ q′) ⊛ ‵ (flft κ″ q″) ⊛ ‵ ftrue) ∷ ‵ (owns (S.the-row ∷ ShrSlice (named 0) κ′ u8 ∷ usize ∷ u64 ∷ MutSlice (named 1) κ″ u8 ∷ []) (w, (h .log, (h .at, (limit, (rows, tt))))) passed) ∷ []) ∵ says ! sound $ frame ! $ done !
 
   -- what the reader, the witness and the rows own gives what the callee asks; what the reader and the witness own is kept
-  apart : h .at < 2 ^ 64 → ent 𝓤 (⋆ 𝓤 H A (‵ Own ∷ (‵ (flft κ′ q′) ⊛ ‵ (flft κ″ q″) ⊛ ‵ ftrue) ∷ ‵ (owns (S.the-row ∷ MutSlice (named 2) κ″ u8 ∷ []) (w, (rows, tt)) (mw ∷ [], (s ∷ [], tt))) ∷ []))
+  apart : h .at < 2 ^ 64 → ent 𝓤 (⋆ 𝓤 H A (‵ Own ∷ (‵ (flft κ′ q′) ⊛ ‵ (flft κ″ q″) ⊛ ‵ ftrue) ∷ ‵ (owns (S.the-row ∷ u64 ∷ MutSlice (named 2) κ″ u8 ∷ []) (w, (limit, (rows, tt))) (mw ∷ [], (vint w64 limit ∷ [], (s ∷ [], tt)))) ∷ []))
       (sep 𝓤 (Read 𝓤 H A at-mem run .pre to) (sep 𝓤 (sem 𝓤 H A Own) (sem 𝓤 H A OwnW)))
   apart fits =
-      qed W (‵ Own ∷ (‵ (flft κ′ q′) ⊛ ‵ (flft κ″ q″) ⊛ ‵ ftrue) ∷ ‵ (owns (S.the-row ∷ MutSlice (named 2) κ″ u8 ∷ []) (w, (rows, tt)) (mw ∷ [], (s ∷ [], tt))) ∷ []) ∵
-      move ! (2 ∷ []) $ fsplit ! $ use1 W (‵ OwnW ⊛ ‵ OwnW) (LL.copy S.the-type S′.the-copy 𝓤 H A W .twice w (mw ∷ [])) $ split ! $
+      qed W (‵ Own ∷ (‵ (flft κ′ q′) ⊛ ‵ (flft κ″ q″) ⊛ ‵ ftrue) ∷ ‵ (owns (S.the-row ∷ u64 ∷ MutSlice (named 2) κ″ u8 ∷ []) (w, (limit, (rows, tt))) (mw ∷ [], (vint w64 limit ∷ [], (s ∷ [], tt)))) ∷ []) ∵
+      move ! (2 ∷ []) $ fsplit ! $ move ! (1 ∷ []) $ fsplit ! $ drop ! $ move ! (1 ∷ []) $ use1 W (‵ OwnW ⊛ ‵ OwnW) (LL.copy S.the-type S′.the-copy 𝓤 H A W .twice w (mw ∷ [])) $ split ! $
       -- [what the witness owns, twice; what the rows own; what the reader owns; the tokens]
       move ! (3 ∷ []) $ use1 W (‵ Own ⊛ ‵ Own) (LL.copy D (T′.the-copy (α κ′)) 𝓤 H A W .twice h (T′.lowered h ∷ [])) $ split ! $
       use1 W (given (T′.lowered h ∷ [] ≡ T′.lowered h ∷ []) (‵ (all-own (D .parts) L vh))) (own-open 𝓤 H A W D L vh (T′.lowered h)) $ learn ! (λ _. use1 W (‵ (ownAt (D .parts) L 0 (h .log)) ⊛ ‵ (rest (D .parts) L 0 vh)) (own-out 𝓤 H A W (D .parts) L 0 vh) $ split ! $
       -- [what log owns; what at owns; what the reader owns; what the witness owns, twice; what the rows own; the tokens]
-      move ! (1 ∷ []) $ drop ! $ move ! (4 ∷ []) $ owned ! usize (Is usize) (uint-makes 𝓤 H A W w64) (h .at) _ (refl, fits) $ fjoin ! $ move ! (1 ∷ 0 ∷ []) $ fjoin ! $ move ! (2 ∷ 0 ∷ []) $ fjoin ! $
+      move ! (1 ∷ []) $ drop ! $ move ! (4 ∷ []) $ owned ! u64 (Is u64) (uint-makes 𝓤 H A W w64) limit _ (refl, small) $ fjoin ! $
+      owned ! usize (Is usize) (uint-makes 𝓤 H A W w64) (h .at) _ (refl, fits) $ fjoin ! $ move ! (1 ∷ 0 ∷ []) $ fjoin ! $ move ! (2 ∷ 0 ∷ []) $ fjoin ! $
       move ! (3 ∷ 0 ∷ []) $ use2 W (raw (Read 𝓤 H A at-mem run .pre to)) asked $ frame ! $ frame ! $ done !)
 
   -- what the reader's log owns is kept, and at's facts are made anew
@@ -169,70 +170,70 @@ module _ {M : Type 1} (𝓤 : URA M) (H : Heap 𝓤) (A : Atoms 𝓤) (W : Given
   log-room : Is (B κ′) h (T′.lowered h ∷ []) → Room u8 (length (now (h .log)))
   log-room is = LL.owed D L h _ is .0 .0 .1
 
-  exits : (r : Batch) (zs : List ℕ) → Found w (now (h .log)) (h .at) ys r zs → length zs ≡ length ys
+  exits : (r : Batch) (zs : List ℕ) → Found limit w (now (h .log)) (h .at) ys r zs → length zs ≡ length ys
       → ent 𝓤 (⋆ 𝓤 H A (‵ (fobs γ (B κ′ .coded .code (moved (r .next)))) ∷ ‵ (fbor κ (Body (mem (B κ′)) b o γ)) ∷ ‵ (flft κ q) ∷ (‵ (flft κ′ q′) ⊛ ‵ (flft κ″ q″) ⊛ ‵ ftrue) ∷ ‵ OwnW ∷ ‵ (finally u8 (rows .name) zs) ∷ ‵ (R.the-row .own r (mr r ∷ [])) ∷ [])) (Post (mr r))
   exits r zs e l =
       qed W (‵ (fobs γ (B κ′ .coded .code (moved (r .next)))) ∷ ‵ (fbor κ (Body (mem (B κ′)) b o γ)) ∷ ‵ (flft κ q) ∷ (‵ (flft κ′ q′) ⊛ ‵ (flft κ″ q″) ⊛ ‵ ftrue) ∷ ‵ OwnW ∷ ‵ (finally u8 (rows .name) zs) ∷ ‵ (R.the-row .own r (mr r ∷ [])) ∷ []) ∵
-      suffices ! _ (ends-at 𝓤 H A read-on.ended stayed (read-on.clauses 𝓤 H A at-mem run) W (((κ, (κ′, (κ″, tt))), (q, (q′, (q″, tt))), bounds, a, vals), tt) (mr r) r (moved (r .next), (tt, (zs, tt))) (tt, (tt, (l, tt)))) $ says ! (e, refl, refl) $
+      suffices ! _ (ends-at 𝓤 H A read-on.ended stayed (read-on.clauses 𝓤 H A at-mem run) W (((κ, (κ′, (κ″, tt))), (q, (q′, (q″, tt))), bounds, a, vals), tt) (mr r) r (moved (r .next), (tt, (tt, (zs, tt)))) (tt, (tt, (tt, (l, tt))))) $ says ! (e, refl, refl) $
       move ! (2 ∷ 3 ∷ []) $ join ! $ frame ! $
-      feqI ! (List Val) (vptr b o ∷ []) (vptr b o ∷ []) refl $ fjoin3 ! $ nothing ! $ move ! (3 ∷ 0 ∷ []) $ fjoin ! $ move ! (2 ∷ 0 ∷ []) $ fjoin ! $ move ! (1 ∷ 0 ∷ []) $ fjoin ! $ frame ! $ done !
+      feqI ! (List Val) (vptr b o ∷ []) (vptr b o ∷ []) refl $ fjoin3 ! $ nothing ! $ move ! (3 ∷ 0 ∷ []) $ fjoin ! $ owned ! u64 (Is u64) (uint-makes 𝓤 H A W w64) limit _ (refl, small) $ fjoin ! $ move ! (2 ∷ 0 ∷ []) $ fjoin ! $ move ! (1 ∷ 0 ∷ []) $ fjoin ! $ frame ! $ done !
 
   module _ (C : Calls 𝓤 H) (Λ : Loops 𝓤 H) (fm : FmC 𝓤 H (W .laws) C) (known : Triple 𝓤 (C #reader·read-many) (Read 𝓤 H A at-mem run)) where
-    walk : Holds (hasTy S′.mir mw) × WT mw → Room u8 (length ys) → ent 𝓤 (onEntry 𝓤 H A read-on.signature (κ, (κ′, (κ″, tt))) (q, (q′, (q″, tt))) a vals) (WpFn 𝓤 H C Λ code.function (vptr b o ∷ mw ∷ s ∷ []) Post)
+    walk : Holds (hasTy S′.mir mw) × WT mw → Room u8 (length ys) → ent 𝓤 (onEntry 𝓤 H A read-on.signature (κ, (κ′, (κ″, tt))) (q, (q′, (q″, tt))) a vals) (WpFn 𝓤 H C Λ code.function (vptr b o ∷ mw ∷ vint w64 limit ∷ s ∷ []) Post)
     walk tw room =
-        qed W ((‵ (flft κ q) ⊛ ‵ (flft κ′ q′) ⊛ ‵ (flft κ″ q″) ⊛ ‵ ftrue) ∷ ‵ (owns (MutRef (named 0) κ (B κ′) ∷ S.the-row ∷ MutSlice (named 2) κ″ u8 ∷ []) a vals) ∷ []) ∵ enter ! C Λ code.function (vptr b o ∷ mw ∷ s ∷ []) _ $
-        alloc1 ! (λ l₀. alloc1 ! (λ l₁. alloc1 ! (λ l₂. alloc1 ! (λ l₃. alloc1 ! (λ l₄. alloc1 ! (λ l₅. alloc1 ! (λ l₆. alloc1 ! (λ l₇. alloc1 ! (λ l₈. alloc0 ! $ params1 ! $
-        pass1 ! (init ! 14 refl (tt, tt)) $ pass1 ! (init ! 12 refl tw) $ pass1 ! (init ! 10 refl (tt, (tt, (record { fits = room .0 }, tt)))) $ pass0 ! $
+        qed W ((‵ (flft κ q) ⊛ ‵ (flft κ′ q′) ⊛ ‵ (flft κ″ q″) ⊛ ‵ ftrue) ∷ ‵ (owns (MutRef (named 0) κ (B κ′) ∷ S.the-row ∷ u64 ∷ MutSlice (named 2) κ″ u8 ∷ []) a vals) ∷ []) ∵ enter ! C Λ code.function (vptr b o ∷ mw ∷ vint w64 limit ∷ s ∷ []) _ $
+        alloc1 ! (λ l₀. alloc1 ! (λ l₁. alloc1 ! (λ l₂. alloc1 ! (λ l₃. alloc1 ! (λ l₄. alloc1 ! (λ l₅. alloc1 ! (λ l₆. alloc1 ! (λ l₇. alloc1 ! (λ l₈. alloc1 ! (λ l₉. alloc0 ! $ params1 ! $
+        pass1 ! (init ! 16 refl (tt, tt)) $ pass1 ! (init ! 14 refl tw) $ pass1 ! (init ! 12 refl (tt, record { fits = small })) $ pass1 ! (init ! 10 refl (tt, (tt, (record { fits = room .0 }, tt)))) $ pass0 ! $
         -- the borrow is opened
-        move ! (19 ∷ []) $ fsplit ! $ fsplit3 ! $ drop ! $ move ! (21 ∷ []) $ split ! $ move ! (2 ∷ 3 ∷ 0 ∷ []) $
+        move ! (21 ∷ []) $ fsplit ! $ fsplit3 ! $ drop ! $ move ! (23 ∷ []) $ split ! $ move ! (2 ∷ 3 ∷ 0 ∷ []) $
         opens ! tt (B κ′) {h = h} b o (λ vs. spelt ! (B κ′) (Is (B κ′)) (shows 𝓤 H A (B κ′)) (LL.vals D L) (LL.tells D L) fullShare h vs b o $
         use1 W (‵ (fat fullShare (T′.mir erased) b o (T′.lowered h))) (W .laws .raw-at fullShare (T′.mir erased) b o (T′.lowered h)) $
         move ! (1 ∷ []) $ peeks ! (B κ′) (Is (B κ′)) (shows 𝓤 H A (B κ′)) h (T′.lowered h ∷ []) (λ was. move ! (1 ∷ 0 ∷ []) $
         -- [the reader's cell; what it owns; the open borrow; obs; auth; the other tokens; what the witness and the rows own; _8; …; _7; …; _6; …; _5; …; _4; …; _3; …; _2; …; _1; …; room for _0; …]
-        assigns ! (of-opd ! (load ! (from ! (hop ! (look ! 21 refl) (fld ! refl (stop !)))) (look-in ! 0 (sub ! 1 refl (whole !))))) (from ! (stop !)) (init ! 15 refl (tt, record { fits = at-fits was })) $
-        assigns ! (of-opd ! (load ! (from ! (hop ! (look ! 21 refl) (fld ! refl (stop !)))) (look-in ! 0 (sub ! 0 refl (whole !))))) (from ! (stop !)) (init ! 11 refl (tt, (tt, (record { fits = log-room was .0 }, tt)))) $
+        assigns ! (of-opd ! (load ! (from ! (hop ! (look ! 23 refl) (fld ! refl (stop !)))) (look-in ! 0 (sub ! 1 refl (whole !))))) (from ! (stop !)) (init ! 15 refl (tt, record { fits = at-fits was })) $
+        assigns ! (of-opd ! (load ! (from ! (hop ! (look ! 23 refl) (fld ! refl (stop !)))) (look-in ! 0 (sub ! 0 refl (whole !))))) (from ! (stop !)) (init ! 11 refl (tt, (tt, (record { fits = log-room was .0 }, tt)))) $
         assigns ! (addr ! (from ! (fld ! refl (hop ! (look-in ! 17 (sub ! 0 refl (whole !))) (stop !))))) (from ! (stop !)) (init ! 9 refl (tt, tt)) $
         assigns ! (agg ! (and-then ! (load ! (from ! (stop !)) (look ! 9 refl)) (and-then ! (load ! (from ! (fld ! refl (stop !))) (look-in ! 17 (sub ! 1 refl (whole !)))) (no-more !)))) (from ! (stop !)) (init ! 7 refl (tt, (tt, (record { fits = room .0 }, tt)))) $
         -- the call
         move ! (1 ∷ 5 ∷ 6 ∷ []) $ use3 W (raw (Read 𝓤 H A at-mem run .pre to) ⊛ (‵ Own ⊛ ‵ OwnW)) (apart (at-fits was)) $ split ! $
         -- [what the callee asks; what is kept; the reader's cell; the open borrow; obs; auth; _8; …; _7; …; _6; …; room for _5; …; _4; …; _3; …; _2; …; _1; …; room for _0; …]
-        calls-at ! fm (Read 𝓤 H A at-mem run) known to (and-then ! (load ! (from ! (stop !)) (look ! 18 refl)) (and-then ! (load ! (from ! (stop !)) (look ! 10 refl)) (and-then ! (load ! (from ! (stop !)) (look ! 14 refl)) (and-then ! (load ! (from ! (stop !)) (look ! 6 refl)) (no-more !))))) (λ u.
-        use1 W (later (some (λ (r : Batch). ((‵ (flft κ′ q′) ⊛ ‵ (flft κ″ q″) ⊛ ‵ ftrue) ⊛ ‵ (R.the-row .own r (u ∷ []))) ⊛ raw (ensured 𝓤 H A read.ended (read.clauses 𝓤 H A at-mem run) (κ′, (κ″, tt)) (w, (h .log, (h .at, (rows, tt)))) tt r)))) (id⊢ 𝓤 _) $ await ! tt $ pick ! (λ r.
+        calls-at ! fm (Read 𝓤 H A at-mem run) known to (and-then ! (load ! (from ! (stop !)) (look ! 20 refl)) (and-then ! (load ! (from ! (stop !)) (look ! 10 refl)) (and-then ! (load ! (from ! (stop !)) (look ! 14 refl)) (and-then ! (load ! (from ! (stop !)) (look ! 18 refl)) (and-then ! (load ! (from ! (stop !)) (look ! 6 refl)) (no-more !)))))) (λ u.
+        use1 W (later (some (λ (r : Batch). ((‵ (flft κ′ q′) ⊛ ‵ (flft κ″ q″) ⊛ ‵ ftrue) ⊛ ‵ (R.the-row .own r (u ∷ []))) ⊛ raw (ensured 𝓤 H A read.ended (read.clauses 𝓤 H A at-mem run) (κ′, (κ″, tt)) (w, (h .log, (h .at, (limit, (rows, tt))))) tt r)))) (id⊢ 𝓤 _) $ await ! tt $ pick ! (λ r.
         -- what `read_many` ensures, at some last rows
-        split ! $ move ! (1 ∷ []) $ use1 W (some (λ (zs : Unit {0} × (Unit {0} × (Unit {0} × (List ℕ × Unit {0})))). ‵ (lasts read.ended (κ′, (κ″, tt)) (w, (h .log, (h .at, (rows, tt)))) zs) ⊛ raw (fact 𝓤 (Found w (now (h .log)) (h .at) ys r (zs .1 .1 .1 .0))))) (id⊢ 𝓤 _) $ pick ! (λ zs.
-        split ! $ move ! (1 ∷ []) $ heard ! (Found w (now (h .log)) (h .at) ys r (zs .1 .1 .1 .0)) (λ e.
-        fsplit ! $ drop ! $ fsplit ! $ drop ! $ fsplit ! $ drop ! $ fsplit ! $ fsplit ! $ move ! (1 ∷ []) $ feqL ! (λ l.
+        split ! $ move ! (1 ∷ []) $ use1 W (some (λ (zs : Unit {0} × (Unit {0} × (Unit {0} × (Unit {0} × (List ℕ × Unit {0}))))). ‵ (lasts read.ended (κ′, (κ″, tt)) (w, (h .log, (h .at, (limit, (rows, tt))))) zs) ⊛ raw (fact 𝓤 (Found limit w (now (h .log)) (h .at) ys r (zs .1 .1 .1 .1 .0))))) (id⊢ 𝓤 _) $ pick ! (λ zs.
+        split ! $ move ! (1 ∷ []) $ heard ! (Found limit w (now (h .log)) (h .at) ys r (zs .1 .1 .1 .1 .0)) (λ e.
+        fsplit ! $ drop ! $ fsplit ! $ drop ! $ fsplit ! $ drop ! $ fsplit ! $ drop ! $ fsplit ! $ fsplit ! $ move ! (1 ∷ []) $ feqL ! (λ l.
         move ! (2 ∷ []) $ split ! $ move ! (1 ∷ []) $ peeks ! R.the-row (Is R.the-row) (shows 𝓤 H A R.the-row) r (u ∷ []) (λ is.
         -- [the batch; the other tokens; the last rows; true; what is kept; the reader's cell; the open borrow; obs; auth; _8; …; _7; …; _6; …; room for _5; …; _4; …; _3; …; _2; …; _1; …; room for _0; …]
         land ! (from ! (stop !)) (init ! 15 refl (typed r (u ∷ []) is .0)) $
-        rewrite ! 15 (λ (x : Val). ‵ (fat fullShare R′.mir l₅ 0 x)) (ap only (told r (u ∷ []) is)) refl $ rewrite ! 0 (λ (vs : List Val). ‵ (R.the-row .own r vs)) (told r (u ∷ []) is) refl $
+        rewrite ! 15 (λ (x : Val). ‵ (fat fullShare R′.mir l₆ 0 x)) (ap only (told r (u ∷ []) is)) refl $ rewrite ! 0 (λ (vs : List Val). ‵ (R.the-row .own r vs)) (told r (u ∷ []) is) refl $
         peeks ! R.the-row (Is R.the-row) (shows 𝓤 H A R.the-row) r (mr r ∷ []) (λ is′.
-        assigns ! (of-opd ! (load ! (from ! (fld ! refl (stop !))) (look-in ! 15 (sub ! 2 refl (whole !))))) (from ! (hop ! (look ! 23 refl) (fld ! refl (stop !)))) (store-in ! 5 (sub ! 1 refl (whole !)) (tt, record { fits = next-fits r is′ })) $
-        assigns ! (of-opd ! (load ! (from ! (stop !)) (look ! 15 refl))) (from ! (stop !)) (init ! 25 refl (typed r (mr r ∷ []) is′ .0)) $
+        assigns ! (of-opd ! (load ! (from ! (fld ! refl (stop !))) (look-in ! 15 (sub ! 2 refl (whole !))))) (from ! (hop ! (look ! 25 refl) (fld ! refl (stop !)))) (store-in ! 5 (sub ! 1 refl (whole !)) (tt, record { fits = next-fits r is′ })) $
+        assigns ! (of-opd ! (load ! (from ! (stop !)) (look ! 15 refl))) (from ! (stop !)) (init ! 27 refl (typed r (mr r ∷ []) is′ .0)) $
         -- the borrow is closed at the reader moved on
         move ! (4 ∷ []) $ split ! $ use1 W (‵ (B κ′ .own (moved (r .next)) (T′.lowered (moved (r .next)) ∷ []))) (again (r .next) (next-fits r is′)) $
         move ! (6 ∷ []) $ use1 W (‵ (cellAt fullShare (B κ′ .mir) (T′.lowered (moved (r .next)) ∷ []) b o)) (W .laws .at-raw fullShare (T′.mir erased) b o (T′.lowered (moved (r .next)))) $
         move ! (0 ∷ 1 ∷ 7 ∷ 8 ∷ 9 ∷ []) $ closes ! tt (B κ′) (moved (r .next)) (T′.lowered (moved (r .next)) ∷ []) b o $
         -- [obs; the borrow; 's's token; what the witness owns; the batch; the other tokens; the last rows; true; _8; …]
-        returns ! (look ! 24 refl) $ forget ! 8 refl $ forget ! 10 refl $ forget ! 12 refl $ forget ! 14 refl $ forget ! 16 refl $ forget ! 18 refl $ forget ! 20 refl $ forget ! 22 refl $ forget ! 24 refl $
-        move ! (24 ∷ 25 ∷ []) $ free1 ! $ move ! (22 ∷ 23 ∷ []) $ free1 ! $ move ! (20 ∷ 21 ∷ []) $ free1 ! $ move ! (18 ∷ 19 ∷ []) $ free1 ! $ move ! (16 ∷ 17 ∷ []) $ free1 ! $ move ! (14 ∷ 15 ∷ []) $ free1 ! $ move ! (12 ∷ 13 ∷ []) $ free1 ! $ move ! (10 ∷ 11 ∷ []) $ free1 ! $ move ! (8 ∷ 9 ∷ []) $ free1 ! $ free0 ! $
-        keep ! (0 ∷ 1 ∷ 2 ∷ 5 ∷ 3 ∷ 6 ∷ 4 ∷ []) $ by ! (exits r (zs .1 .1 .1 .0) e l)))))))))))))))))))
+        returns ! (look ! 26 refl) $ forget ! 8 refl $ forget ! 10 refl $ forget ! 12 refl $ forget ! 14 refl $ forget ! 16 refl $ forget ! 18 refl $ forget ! 20 refl $ forget ! 22 refl $ forget ! 24 refl $ forget ! 26 refl $
+        move ! (26 ∷ 27 ∷ []) $ free1 ! $ move ! (24 ∷ 25 ∷ []) $ free1 ! $ move ! (22 ∷ 23 ∷ []) $ free1 ! $ move ! (20 ∷ 21 ∷ []) $ free1 ! $ move ! (18 ∷ 19 ∷ []) $ free1 ! $ move ! (16 ∷ 17 ∷ []) $ free1 ! $ move ! (14 ∷ 15 ∷ []) $ free1 ! $ move ! (12 ∷ 13 ∷ []) $ free1 ! $ move ! (10 ∷ 11 ∷ []) $ free1 ! $ move ! (8 ∷ 9 ∷ []) $ free1 ! $ free0 ! $
+        keep ! (0 ∷ 1 ∷ 2 ∷ 5 ∷ 3 ∷ 6 ∷ 4 ∷ []) $ by ! (exits r (zs .1 .1 .1 .1 .0) e l))))))))))))))))))))
 
 module _ {M : Type 1} (𝓤 : URA M) (H : Heap 𝓤) (A : Atoms 𝓤) (W : Given 𝓤 H A) (mem : Memory → SProp 𝓤) (run : Routine → Fun 𝓤) where
   read-on-walks : (C : Calls 𝓤 H) (Λ : Loops 𝓤 H) → FmC 𝓤 H (W .laws) C → Triple 𝓤 (C #reader·read-many) (Read 𝓤 H A mem run)
       → Walks 𝓤 H A read-on.ended stayed (WpFn 𝓤 H C Λ code.function) (read-on.clauses 𝓤 H A mem run)
   read-on-walks C Λ fm known = walked 𝓤 H A read-on.ended stayed (read-on.clauses 𝓤 H A mem run) (WpFn 𝓤 H C Λ code.function)
-      (λ κs. (ptr-vals, (LL.vals S.the-type S′.the-laws, (slice-vals, tt))))
-      (λ κs. (mut-tells (named 0) (κs .0) (B (κs .1 .0)), (LL.tells S.the-type S′.the-laws, (mut-slice-tells (named 2) (κs .1 .1 .0) u8, tt))))
+      (λ κs. (ptr-vals, (LL.vals S.the-type S′.the-laws, (uint-vals w64, (slice-vals, tt)))))
+      (λ κs. (mut-tells (named 0) (κs .0) (B (κs .1 .0)), (LL.tells S.the-type S′.the-laws, (uint-tells w64, (mut-slice-tells (named 2) (κs .1 .1 .0) u8, tt)))))
       (λ κs qs bounds a g are. needs 𝓤 (Sound (a .1 .0)) _ (λ sound.
-      walk 𝓤 H A W mem run (κs .0) (κs .1 .0) (κs .1 .1 .0) (qs .0) (qs .1 .0) (qs .1 .1 .0) bounds (a .0 .ptr .0) (a .0 .ptr .1) (a .0 .name) (a .0 .now) (a .1 .0) (LL.val S.the-type S′.the-laws (a .1 .0)) (a .1 .1 .0) sound C Λ fm known
-      (LL.lawful S.the-type S′.the-laws 𝓤 H A W .typed (a .1 .0) _ (are .1 .0) .0) (are .1 .1 .0 .0 .1)))
+      walk 𝓤 H A W mem run (κs .0) (κs .1 .0) (κs .1 .1 .0) (qs .0) (qs .1 .0) (qs .1 .1 .0) bounds (a .0 .ptr .0) (a .0 .ptr .1) (a .0 .name) (a .0 .now) (a .1 .0) (LL.val S.the-type S′.the-laws (a .1 .0)) (a .1 .1 .0) (are .1 .1 .0 .1) (a .1 .1 .1 .0) sound C Λ fm known
+      (LL.lawful S.the-type S′.the-laws 𝓤 H A W .typed (a .1 .0) _ (are .1 .0) .0) (are .1 .1 .1 .0 .0 .1)))
 
 read-on-meets : {M : Type 1} (𝓤 : URA M) (H : Heap 𝓤) (A : Atoms 𝓤) (W : Given 𝓤 H A) (mem : Memory → SProp 𝓤) (run : Routine → Fun 𝓤) (𝓣 : Tables 𝓤 H)
     → Triple 𝓤 (𝓣 .C #reader·read-many) (Read 𝓤 H A mem run)
     → Meets 𝓤 H A read-on.signature (WpFn 𝓤 H (𝓣 .C) (𝓣 .Λ) code.function) (read-on.spec 𝓤 H A mem run)
 read-on-meets 𝓤 H A W mem run 𝓣 known = walk-meets 𝓤 H A read-on.ended stayed W
-    (goes-ref 𝓤 H A W 3 0 tt behind, (goes-none 𝓤 H A W 3 (λ _. S.the-row) yes (λ κs x f. refl), (goes-gave-slice 𝓤 H A W 3 2 tt (plain (λ _. u8)), tt)))
+    (goes-ref 𝓤 H A W 3 0 tt behind, (goes-none 𝓤 H A W 3 (λ _. S.the-row) yes (λ κs x f. refl), (goes-none 𝓤 H A W 3 (λ _. u64) yes (λ κs x f. refl), (goes-gave-slice 𝓤 H A W 3 2 tt (plain (λ _. u8)), tt))))
     (read-on.clauses 𝓤 H A mem run) (WpFn 𝓤 H (𝓣 .C) (𝓣 .Λ) code.function) (WpFn-mono 𝓤 H (W .laws) 𝓣 code.function)
     (read-on-walks 𝓤 H A W mem run (𝓣 .C) (𝓣 .Λ) (fmOf 𝓤 H (W .laws) 𝓣) known)
 

@@ -95,6 +95,12 @@ enum-told-29 c = search needs
 enum-told-30 : tie.Need-enum-told-30
 enum-told-30 c = search needs
 
+enum-told-31 : tie.Need-enum-told-31
+enum-told-31 c = search needs
+
+enum-told-32 : tie.Need-enum-told-32
+enum-told-32 c = search needs
+
 returns : tie.Need-returns
 returns c = sym (ap refusalNumber (c .enum-told .given .1))
 
@@ -185,6 +191,12 @@ returns-29 c = sym (ap refusalNumber (c .enum-told29 .given .1))
 returns-30 : tie.Need-returns-30
 returns-30 c = sym (ap refusalNumber (c .enum-told30 .given .1))
 
+returns-31 : tie.Need-returns-31
+returns-31 c = sym (ap refusalNumber (c .enum-told31 .given .1))
+
+returns-32 : tie.Need-returns-32
+returns-32 c = sym (ap refusalNumber (c .enum-told32 .given .1))
+
 pub refusal-number-spec : {M : Type 1} → statement M
 refusal-number-spec =
     tie.close
@@ -219,6 +231,8 @@ refusal-number-spec =
     enum-told-28
     enum-told-29
     enum-told-30
+    enum-told-31
+    enum-told-32
     returns
     returns-2
     returns-3
@@ -248,4 +262,6 @@ refusal-number-spec =
     returns-27
     returns-28
     returns-29
-    returns-30)
+    returns-30
+    returns-31
+    returns-32)

@@ -1,14 +1,20 @@
 -- `rules::decide_record` meets its contract: row 5 by the record's size, then the rows of its kind. Assumes nothing.
 use Prim.Native.Nat.{ℕ, _-_, _<_, _≤_}
-use mathlib.Core.Path.{_≡_, sym, ap, _∙_}
+use mathlib.Core.Path.{_≡_, refl, sym, ap, _∙_}
+use mathlib.Core.Logic.{⊎-elim}
 use mathlib.Core.List.{List}
 use native.Mathlib.Omega.{arith}
 use borrow.Author.Needs.{needs}
 use lib.ListN.{length, drop, getD}
+use Rattle.model.specs.Answer.{Answer}
+use Rattle.model.specs.Change.{Change, single}
 use Rattle.model.specs.Decide.{decideRecord, decide}
 use Rattle.model.specs.Log.{Kind, kindOf, sizeOf, decodeAs, recordSize}
 use Rattle.model.specs.Model.{Model}
 use Rattle.model.proofs.Log.{none-at, cut-at, whole-at, other-kind}
+use Rattle.rules.specs.Decision.{decisionOf, BitsFit}
+use Rattle.rules.specs.declared.Decision.{Decision}
+use Rattle.rules.proofs.Bundled.{single-fits}
 use Rattle.rules.proofs.Decided.{members-fixed}
 use Rattle.rules.proofs.decide_record.Statement.{statement}
 use Rattle.rules.proofs.decide_record.Tie as tie
@@ -42,12 +48,17 @@ by-kind c m {k} e =
     let s = drop (at c) (log c) in
     sym (ap (decideRecord m) (whole-at (at c) (log c) (inside c .if1 .left) (fits c) .decoded ∙ ap (λ (j : Kind). decodeAs j s) e))
 
+-- what one record's rows decide is no bundle
+alone : (c : tie.Else2) (m : Model) {k : Kind} (d : Decision) (a : Answer Change) → kindOf (kind c) ≡ k
+    → (let s = drop (at c) (log c) in (decisionOf m s d ≡ single a) × (single a ≡ decideRecord m (decodeAs k s)))
+    → let s = drop (at c) (log c) in (decisionOf m s d ≡ decide m s) × BitsFit (start (inside c) .args .counts .members) s d
+alone c m {k} d a e is = (is .0 ∙ is .1 ∙ by-kind c m e, single-fits m _ _ a d (is .0))
+
 returns : tie.Need-returns
 unfolding decide decideRecord
 returns c =
-    λ m held.
     let a = lent (c .before) .args in
-    sym (ap (decideRecord m) (none-at (a .at) (a .log .now) (c .if1 .taken) .decoded))
+    λ m held. (sym (ap (decideRecord m) (none-at (a .at) (a .log .now) (c .if1 .taken) .decoded)), tt)
 
 shared-slice-read-kind : tie.Need-shared-slice-read-kind
 shared-slice-read-kind c = search needs
@@ -61,11 +72,10 @@ record-size-requires c κs = search needs
 returns-2 : tie.Need-returns-2
 unfolding decide decideRecord
 returns-2 c =
-    λ m held.
     let e = c .before .before .before in
     let a = start e .args in
     let short : length (a .log .now) - a .at < recordSize (getD (a .log .now) (a .at) 0) = omega (arith, c .before .record-size .ensures, c .if2 .taken) in
-    sym (ap (decideRecord m) (cut-at (a .at) (a .log .now) (e .if1 .left) short .decoded))
+    λ m held. (sym (ap (decideRecord m) (cut-at (a .at) (a .log .now) (e .if1 .left) short .decoded)), tt)
 
 decide-member-requires : tie.Need-decide-member-requires
 unfolding recordSize sizeOf kindOf
@@ -86,34 +96,50 @@ decide-vote-requires c κs =
     let e = c .before in
     (start (inside e) .pre, omega (arith, fits e, ap recordSize (c .match .keys3), inside e .if1 .left))
 
+decide-bundle-requires : tie.Need-decide-bundle-requires
+unfolding recordSize sizeOf kindOf
+decide-bundle-requires c κs =
+    let e = c .before in
+    let fit = start (inside e) .pre in
+    (fit .names-long, fit .checkpoints-fit, fit .falling, omega (arith, fits e, ap recordSize (c .match .keys4), inside e .if1 .left))
+
 returns-3 : tie.Need-returns-3
 unfolding decideRecord decodeAs kindOf
 returns-3 c =
     λ m held.
     let k = c .before .before .before in
-    c .decide-member .ensures m (members-fixed held) (held .members-held) ∙ by-kind (k .before) m (ap kindOf (k .match .keys1))
+    alone (k .before) m (c .decide-member .result) _ (ap kindOf (k .match .keys1)) (c .decide-member .ensures m (members-fixed held) (held .members-held), refl)
 
 returns-4 : tie.Need-returns-4
 unfolding decideRecord decodeAs kindOf
 returns-4 c =
     λ m held.
     let k = c .before in
-    c .decide-checkpoint .ensures m (held .names-held) (held .heights-held) ∙ by-kind (k .before) m (ap kindOf (k .match .keys2))
+    alone (k .before) m (c .decide-checkpoint .result) _ (ap kindOf (k .match .keys2)) (c .decide-checkpoint .ensures m (held .names-held) (held .heights-held), refl)
 
 returns-5 : tie.Need-returns-5
 unfolding decideRecord decodeAs kindOf
-returns-5 c = λ m held. let k = c .before in c .decide-vote .ensures m held ∙ by-kind (k .before) m (ap kindOf (k .match .keys3))
+returns-5 c = λ m held. let k = c .before in alone (k .before) m (c .decide-vote .result) _ (ap kindOf (k .match .keys3)) (c .decide-vote .ensures m held, refl)
 
 returns-6 : tie.Need-returns-6
 unfolding decideRecord decodeAs kindOf
-returns-6 c = λ m held. by-kind (c .before) m (ap kindOf (c .match .keys4))
+returns-6 c =
+    λ m held.
+    let k = c .before in (
+      c .decide-bundle .ensures .0 m (held .members-held .count) (held .names-held) (held .heights-held) (held .ancestors-held) ∙ by-kind (k .before) m (ap kindOf (k .match .keys4)),
+      c .decide-bundle .ensures .1,
+    )
 
 returns-7 : tie.Need-returns-7
+unfolding decideRecord decodeAs kindOf
+returns-7 c = λ m held. (⊎-elim (λ e. by-kind (c .before) m (ap kindOf e)) (λ e. by-kind (c .before) m (ap kindOf e)) (c .match .keys5), tt)
+
+returns-8 : tie.Need-returns-8
 unfolding decideRecord decodeAs
-returns-7 c =
+returns-8 c =
     λ m held.
     let none = c .match .rest .0 in
-    by-kind (c .before) m (other-kind (kind (c .before)) (none .0 .0 .1) (none .0 .1) (none .1))
+    (by-kind (c .before) m (other-kind (kind (c .before)) (none .0 .0 .0 .1) (none .0 .0 .1) (none .0 .1) (none .1)), tt)
 
 pub decide-record-spec : {M : Type 1} → statement M
 decide-record-spec =
@@ -127,8 +153,10 @@ decide-record-spec =
     decide-member-requires
     decide-checkpoint-requires
     decide-vote-requires
+    decide-bundle-requires
     returns-3
     returns-4
     returns-5
     returns-6
-    returns-7)
+    returns-7
+    returns-8)

@@ -12,7 +12,7 @@ use Rattle.stream.proofs.read_pieces.Tie as tie
 
 abbrev Inv-loop : tie.InvT-loop
 Inv-loop fd lines input₀ output₀ t₀ turns₀ input output t turns =
-    (t .have ≤ length input) × (75 ≤ length input) × (length input ≡ length input₀) × (length output ≡ length output₀) × Reads (length output₀) t input
+    (t .have ≤ length input) × (89 ≤ length input) × (length input ≡ length input₀) × (length output ≡ length output₀) × Reads (length output₀) t input
 
 abbrev μ-loop : tie.MeasureT-loop
 μ-loop fd lines input₀ output₀ t₀ turns₀ input output t turns = turns

@@ -10,7 +10,7 @@ is-sound-requires c κs = search needs
 returns : tie.Need-returns
 returns c =
     let a = c .before .before .before .before .args in
-    many-unsound _ (a .w) (a .log .now) (a .at) (meets-40 (a .w) (c .before .is-sound .ensures) (c .if1 .taken)) (a .rows .now)
+    many-unsound _ _ (a .w) (a .log .now) (a .at) (meets-40 (a .w) (c .before .is-sound .ensures) (c .if1 .taken)) (a .rows .now)
 
 read-from-requires : tie.Need-read-from-requires
 read-from-requires c κs = let e = c .before in good-state (e .before .before .before .before .args .w) (e .before .is-sound .ensures) (e .if1 .left)
@@ -23,7 +23,7 @@ returns-2 c =
     let r = c .before .before in
     let e = r .before .before in
     let a = e .before .before .before .before .args in
-    many-sound _ (a .w) (a .log .now) (a .at) (passes-40 (a .w) (e .before .is-sound .ensures) (e .if1 .left)) (r .read-from .ensures)
+    many-sound _ _ (a .w) (a .log .now) (a .at) (passes-40 (a .w) (e .before .is-sound .ensures) (e .if1 .left)) (r .read-from .ensures)
 
 pub read-many-spec : {M : Type 1} → statement M
 read-many-spec =

@@ -1,29 +1,34 @@
--- `rules::votes::vote_of` meets its contract: rows 30 to 32 by `find_endpoints`, 33 to 35 by `check_places`. Assumes nothing.
+-- `rules::votes::vote_of` meets its contract: row 30 by the search for the member, 31 to 34 by `link_of`, 35 by `cast`.
+-- Assumes nothing.
 use Prim.Native.Nat.{ℕ}
-use mathlib.Core.Path.{_≡_, sym, ap, ap₂, _∙_, subst}
+use mathlib.Core.Path.{_≡_, sym, ap, ap₂, _∙_}
 use mathlib.Core.List.{List}
+use mathlib.Core.Bool.{Bool, not}
 use borrow.Author.Needs.{needs}
+use borrow.Author.Tests.{lt-ltb, le-ltb}
+use lib.Dec.{ltb}
 use lib.ListN.{drop}
-use Rattle.model.specs.Answer.{Answer, andThen}
+use Rattle.model.specs.Answer.{Answer, row, andThen}
 use Rattle.model.specs.Bytes.{field, part}
-use Rattle.model.specs.Decide.{voteBetween, voteOf}
-use Rattle.model.specs.Model.{Model, Vote}
+use Rattle.model.specs.Decide.{linkOf, cast, voteOf}
+use Rattle.model.specs.Model.{Model, Link, idHeld}
 use Rattle.state.specs.Tables.{Held}
 use Rattle.state.proofs.Fields.{field-at}
-use Rattle.rules.specs.Ballot.{ballotOf, Within}
-use Rattle.rules.specs.declared.votes.Ballot.{Ballot}
+use Rattle.state.proofs.Held.{held-id}
+use Rattle.rules.proofs.Decided.{link-read}
 use Rattle.rules.proofs.votes.vote_of.Statement.{statement}
 use Rattle.rules.proofs.votes.vote_of.Tie as tie
+
+-- stations: the member's search, and the link
 
 abbrev lent : tie.After-shared-slice-known6 → tie.Start
 lent c = c .before .before .before .before .before .before
 
-abbrev start : tie.After-find-endpoints → tie.Start
-start c = lent (c .before)
+abbrev start : tie.After-find-id → tie.Start
+start c = lent (c .before .before)
 
--- the search whose result is matched
-abbrev searched : tie.After-id → tie.After-find-endpoints
-searched c = c .before .before
+abbrev member : tie.After-link-of → tie.After-find-id
+member c = c .before .before .before
 
 -- the bytes of the record
 abbrev s : tie.Start → List ℕ
@@ -33,79 +38,67 @@ s c = drop (c .args .at) (c .args .log .now)
 abbrev Holds : tie.Start → Model → Type 0
 Holds c m = let a = c .args in Held m (a .counts) (a .ids .now) (a .names .now) (a .parents) (a .heights) (a .keys .now)
 
--- what the model makes of the vote, whatever heights are given
-abbrev made : tie.Start → Model → ℕ → ℕ → Answer Vote
-made c m h k = voteOf m (field 1 2 (s c)) (part 3 32 (s c)) (part 35 32 (s c)) h k
+id-is : (c : tie.After-find-id) → field 1 2 (s (start c)) ≡ c .before .be16 .result
+id-is c = let a = start c .args in field-at (a .at) 1 2 (a .log .now) ∙ sym (c .before .be16 .ensures)
 
--- and what the later rows make of what was found
-abbrev later : Model → ℕ → ℕ → Ballot → Answer Vote
-later m h k b = andThen (ballotOf b) (λ v. voteBetween m v h k)
+member-held : (c : tie.After-find-id) {m : Model} → Holds (start c) m
+    → idHeld m (field 1 2 (s (start c))) ≡ ltb (c .find-id .result) (start c .args .counts .members)
+member-held c {m} held = ap (idHeld m) (id-is c) ∙ held-id _ (held .members-held) (c .find-id .ensures)
 
-ends : (c : tie.After-find-endpoints) (m : Model) → Holds (start c) m → (h k : ℕ) → later m h k (c .find-endpoints .result) ≡ made (start c) m h k
-ends c m held h k = c .find-endpoints .ensures .0 m h k (held .members-held) (held .names-held)
+-- row 30, then the link's rows and the member's
+by-member : (m : Model) (id : ℕ) (source target : List ℕ) (h k : ℕ) {b : Bool} → idHeld m id ≡ b
+    → voteOf m id source target h k ≡ row 30 (not b) (andThen (linkOf m source target h k) (cast m id))
+unfolding voteOf
+by-member m id source target h k e = rw e
 
-find-endpoints-requires : tie.Need-find-endpoints-requires
-find-endpoints-requires c κs = let p = lent c .pre in (p .0 .ids-long, p .0 .names-long, p .0 .checkpoints-fit, p .1)
+add-be16 : tie.Need-add-be16
+add-be16 c = search needs
 
-enum-known-r : tie.Need-enum-known-r
-enum-known-r c = search needs
+be16-requires : tie.Need-be16-requires
+be16-requires c κs = search needs
 
-enum-known-id : tie.Need-enum-known-id
-enum-known-id c = search needs
-
-add-be32 : tie.Need-add-be32
-add-be32 c = search needs
-
-be32-requires : tie.Need-be32-requires
-be32-requires c κs = search needs
-
-add-be32-2 : tie.Need-add-be32-2
-add-be32-2 c = search needs
-
-be32-requires-2 : tie.Need-be32-requires-2
-be32-requires-2 c κs = search needs
-
-check-places-requires : tie.Need-check-places-requires
-check-places-requires c κs =
-    let id = c .before .before .before in
-    let fit = start (searched id) .pre .0 in
-    let inside = subst (Within (start (searched id) .args .counts .checkpoints)) (id .id .given .1) (searched id .find-endpoints .ensures .1) in
-    ((fit .checkpoints-fit, inside .0, inside .1, fit .falling), (fit .votes-fit, fit .indexed))
+find-id-requires : tie.Need-find-id-requires
+find-id-requires c κs = search needs
 
 returns : tie.Need-returns
-unfolding andThen
+unfolding row
 returns c =
     λ m held.
-    let ended = c .before .before .before in
-    let x = field 67 4 (s (start ended)) in
-    let y = field 71 4 (s (start ended)) in
-    sym (ap (later m x y) (c .before .r .given .1)) ∙ ends ended m held x y
+    let found = c .before .before in
+    let t = s (start found) in
+    sym (by-member m _ (part 3 32 t) (part 35 32 t) _ _ (member-held found held ∙ le-ltb _ _ (c .if1 .taken)))
+
+add-link-of : tie.Need-add-link-of
+add-link-of c = search needs
+
+link-of-requires : tie.Need-link-of-requires
+link-of-requires c κs = search needs
+
+cast-requires : tie.Need-cast-requires
+cast-requires c κs = search needs
 
 returns-2 : tie.Need-returns-2
-unfolding andThen
+unfolding row
 returns-2 c =
     λ m held.
-    let found = c .before .before .before .before in
-    let b = start (searched found) in
-    let a = b .args in
-    let h = c .before .before .be32 in
-    let k = c .before .be322 in
-    c .check-places .ensures m (held .heights-held) (held .ancestors-held) (held .keys-held)
-    ∙ sym (ap (later m (h .result) (k .result)) (found .id .given .1))
-    ∙ ends (searched found) m held (h .result) (k .result)
-    ∙ ap₂ (made b m) (h .ensures ∙ sym (field-at (a .at) 67 4 (a .log .now))) (k .ensures ∙ sym (field-at (a .at) 71 4 (a .log .now)))
+    let linked = c .before in
+    let found = member linked in
+    let a = start found .args in
+    c .cast .ensures m (held .keys-held)
+    ∙ ap₂ (λ (l : Answer Link) (id : ℕ). andThen l (cast m id))
+    (linked .link-of .ensures m (held .names-held) (held .heights-held) (held .ancestors-held) ∙ link-read m (a .at) 3 (a .log .now))
+    (sym (id-is found))
+    ∙ sym (by-member m _ _ _ _ _ (member-held found held ∙ lt-ltb _ _ (linked .before .if1 .left)))
 
 pub vote-of-spec : {M : Type 1} → statement M
 vote-of-spec =
     tie.close
     (tie.spec
-    find-endpoints-requires
-    enum-known-r
-    enum-known-id
-    add-be32
-    be32-requires
-    add-be32-2
-    be32-requires-2
-    check-places-requires
+    add-be16
+    be16-requires
+    find-id-requires
     returns
+    add-link-of
+    link-of-requires
+    cast-requires
     returns-2)
