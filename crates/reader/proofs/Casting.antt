@@ -22,7 +22,7 @@ use Rattle.state.specs.State.{modelOf, storeAll, stored}
 use Rattle.state.specs.declared.Witness.{Witness}
 use Rattle.state.proofs.Entries.{count-members, count-votes, member-is}
 use Rattle.state.proofs.Kept.{Kept, changes-kept, store-both}
-use Rattle.wire.proofs.SetPlaces.{setBelow, one-more, none-more}
+use Rattle.bits.proofs.SetPlaces.{setBelow, one-more, none-more}
 use Rattle.rules.specs.Decision.{castVote, castEach}
 use Rattle.rules.proofs.Bundled.{afterEach, each-more, each-fits, each-members, each-number}
 use Rattle.reader.specs.Entries.{later, marked, rowsOf, entriesOf}

@@ -18,7 +18,7 @@ use Rattle.model.proofs.Lists.{or-left, or-right, clash, not-so, all-map}
 use Rattle.model.proofs.Log.{decode-elim}
 use Rattle.model.proofs.Rows.{memberRows, checkpointRows, voteRows, bundleRows, member-elim, checkpoint-elim, vote-elim, bundle-elim}
 use Rattle.state.specs.Reading.{rowOf}
-use Rattle.wire.proofs.SetPlaces.{few-set}
+use Rattle.bits.proofs.SetPlaces.{few-set}
 use Rattle.reader.specs.Entries.{rowsOf}
 
 -- a refusal has a row's number, which is not 0

@@ -151,7 +151,7 @@ pub fn read_many(w: Witness, log: &[u8], at: usize, limit: u64, rows: &mut [u8])
                 end = used;
                 let mut p: usize = 0;
                 while p < MAX_MEMBERS {
-                    if wire::bits::is_set(log, next + 1, p) {
+                    if bits::is_set(log, next + 1, p) {
                         let k = held.vote_count;
                         let vote = rules::votes::decide_cast(
                             link,

@@ -45,10 +45,10 @@ pub fn decide_bundle<'a>(
         ⌝ }
     ensures { λ r. ⌜ BitsFit (counts .members) (drop at (now (log .entry))) r ⌝ }
 {
-    if wire::bits::any_from(log, at + 1, counts.members) {
+    if bits::any_from(log, at + 1, counts.members) {
         return Decision::Refuse(Refusal::BitWithoutMember);
     }
-    let votes = wire::bits::number(log, at + 1);
+    let votes = bits::number(log, at + 1);
     if votes == 0 {
         return Decision::Refuse(Refusal::NoBitSet);
     }

@@ -1,4 +1,3 @@
 pub mod Parts
-pub mod SetPlaces
 pub mod Digits
 pub mod Compare

@@ -1,6 +1,5 @@
 // Big-endian integers of 16, 32 and 64 bits, read from a slice, and of 16 bits written into one, and the comparison of
-// two runs of bytes. The widths share a loop, and so a proof. How long a record is, module `records` says; a bundle's
-// member bits are in module `bits`.
+// two runs of bytes. The widths share a loop, and so a proof. How long a record is, module `records` says.
 ghost use mathlib.Core.Path.{_≡_};
 ghost use mathlib.Core.List.{_++_};
 ghost use Prim.Native.Nat.{_+_, _≤_, _<_, _^_};
@@ -8,7 +7,6 @@ ghost use lib.ListN.{length, drop};
 ghost use Rattle.model.specs.Bytes.{field, beBytes, part};
 ghost use Rattle.model.specs.Lists.{sameBytes};
 
-pub mod bits;
 pub mod records;
 
 // A byte as a number: what a caller learns of a byte's range.

@@ -36,7 +36,7 @@ use Rattle.state.proofs.Fields.{part-at}
 use Rattle.state.proofs.Held.{keys-held, all-held}
 use Rattle.state.proofs.Sound.{few-checkpoints, few-votes, ids-long, voters-long, falling, low-heights}
 use Rattle.state.proofs.Stored.{checkpoint-stored}
-use Rattle.wire.proofs.SetPlaces.{among, few-set}
+use Rattle.bits.proofs.SetPlaces.{among, few-set}
 use Rattle.reader.specs.Entries.{later, entriesOf, entries}
 use Rattle.reader.specs.Many.{readMany}
 use Rattle.reader.proofs.Casting.{Casting, typed-now, few-now, id-now, skip, take-vote, casting-as, none-cast, all-cast}

@@ -1,4 +1,4 @@
--- `wire::bits::number` meets its contract. The loop's invariant: how many of the places below `p` are set. Assumes nothing.
+-- `bits::number` meets its contract. The loop's invariant: how many of the places below `p` are set. Assumes nothing.
 use Prim.Native.Nat.{ℕ, _-_, _≤_}
 use native.Mathlib.Omega.{arith}
 use mathlib.Core.Path.{_≡_, refl, sym, ap, _∙_}
@@ -7,9 +7,9 @@ use lib.ListN.{length}
 use Rattle.model.specs.Bits.{setPlaces}
 use Rattle.model.specs.Bytes.{part}
 use Rattle.model.specs.Lists.{concatBelow}
-use Rattle.wire.proofs.SetPlaces.{setBelow, length-more, length-same}
-use Rattle.wire.proofs.bits.number.Statement.{statement}
-use Rattle.wire.proofs.bits.number.Tie as tie
+use Rattle.bits.proofs.SetPlaces.{setBelow, length-more, length-same}
+use Rattle.bits.proofs.number.Statement.{statement}
+use Rattle.bits.proofs.number.Tie as tie
 
 abbrev Inv-loop : tie.InvT-loop
 Inv-loop s at n₀ p₀ n p = (p ≤ 128) × (n ≤ p) × (n ≡ length (setBelow (part at 16 s) p))

@@ -1,4 +1,4 @@
--- `wire::bits::any_from` meets its contract. The loop's invariant: what the places below `p` say. Assumes nothing.
+-- `bits::any_from` meets its contract. The loop's invariant: what the places below `p` say. Assumes nothing.
 use Prim.Native.Nat.{ℕ, _-_, _≤_}
 use native.Mathlib.Omega.{arith}
 use mathlib.Core.Path.{_≡_, refl, ap, _∙_}
@@ -6,9 +6,9 @@ use lib.Dec.{leb}
 use Rattle.model.specs.Bits.{setPlaces}
 use Rattle.model.specs.Bytes.{part}
 use Rattle.model.specs.Lists.{any, concatBelow}
-use Rattle.wire.proofs.SetPlaces.{setBelow, any-more}
-use Rattle.wire.proofs.bits.any_from.Statement.{statement}
-use Rattle.wire.proofs.bits.any_from.Tie as tie
+use Rattle.bits.proofs.SetPlaces.{setBelow, any-more}
+use Rattle.bits.proofs.any_from.Statement.{statement}
+use Rattle.bits.proofs.any_from.Tie as tie
 
 abbrev Inv-loop : tie.InvT-loop
 Inv-loop s at from hit₀ p₀ hit p = (p ≤ 128) × (hit ≡ any (λ q. leb from q) (setBelow (part at 16 s) p))

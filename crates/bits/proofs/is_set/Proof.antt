@@ -1,12 +1,12 @@
--- `wire::bits::is_set` meets its contract: the byte that has the bit, shifted down to it. Assumes nothing.
+-- `bits::is_set` meets its contract: the byte that has the bit, shifted down to it. Assumes nothing.
 use Prim.Native.Nat.{ℕ, _/_, _%_, _^_}
 use mathlib.Core.Path.{sym, ap}
 use borrow.Author.Needs.{needs}
 use lib.Dec.{eqb}
 use Rattle.model.specs.Bits.{bitSet}
-use Rattle.wire.proofs.SetPlaces.{byte-of}
-use Rattle.wire.proofs.bits.is_set.Statement.{statement}
-use Rattle.wire.proofs.bits.is_set.Tie as tie
+use Rattle.bits.proofs.SetPlaces.{byte-of}
+use Rattle.bits.proofs.is_set.Statement.{statement}
+use Rattle.bits.proofs.is_set.Tie as tie
 
 add-result : tie.Need-add-result
 add-result c = search needs
