@@ -3,13 +3,14 @@
 use crate::random::Random;
 use crate::reference::{Name, HEADER, MAX_BOND, MAX_CHECKPOINTS, MAX_MEMBERS, MAX_VOTES};
 
-// How names differ: anywhere, or in one or two bytes alone.
+// How names differ: anywhere, or in two bytes alone: the last, the first, the middle ones, the first with the last.
 #[derive(Clone, Copy)]
-enum Naming {
+pub enum Naming {
     Random,
-    LastByte,
-    FirstByte,
-    TwoBytes,
+    Last,
+    First,
+    Middle,
+    FirstAndLast,
 }
 
 // A checkpoint as a vote or a bundle tells it: its name and its height.
@@ -95,9 +96,29 @@ pub fn carried_log(seed: u64, links: usize, bundled: bool) -> Vec<u8> {
     m.log
 }
 
+// A log of one chain of so many checkpoints, and of members, if any, that each vote for every step of it: each name is
+// looked for as that of the next one's parent, and of the source and the target of votes, but where the chain ends.
+pub fn named_log(naming: Naming, checkpoints: usize, members: u16) -> Vec<u8> {
+    let mut m = Maker::new(Random::of_case(1, 7, 0));
+    m.naming = naming;
+    m.begin();
+    for id in 1..=members {
+        m.member(id, 1);
+    }
+    for parent in 0..checkpoints - 1 {
+        m.checkpoint(parent);
+    }
+    for id in 1..=members {
+        for parent in 0..checkpoints - 1 {
+            m.vote(id, parent, parent + 1);
+        }
+    }
+    m.log
+}
+
 impl Maker {
     fn new(mut random: Random) -> Maker {
-        let naming = random.pick(&[Naming::Random, Naming::LastByte, Naming::FirstByte, Naming::TwoBytes]);
+        let naming = random.pick(&[Naming::Random, Naming::Last, Naming::First, Naming::Middle, Naming::FirstAndLast]);
         Maker { random, log: Vec::new(), ids: Vec::new(), tree: Vec::new(), votes: Vec::new(), naming, last_record: 0 }
     }
 
@@ -133,9 +154,10 @@ impl Maker {
         let number = (self.tree.len() as u16).to_be_bytes();
         match self.naming {
             Naming::Random => name.copy_from_slice(&self.random.bytes(32)),
-            Naming::LastByte => name[30..].copy_from_slice(&number),
-            Naming::FirstByte => name[..2].copy_from_slice(&[number[1], number[0]]),
-            Naming::TwoBytes => (name[0], name[31]) = (number[0], number[1]),
+            Naming::Last => name[30..].copy_from_slice(&number),
+            Naming::First => name[..2].copy_from_slice(&[number[1], number[0]]),
+            Naming::Middle => name[15..17].copy_from_slice(&number),
+            Naming::FirstAndLast => (name[0], name[31]) = (number[0], number[1]),
         }
         name
     }
@@ -410,7 +432,7 @@ impl Maker {
     // A name that differs from a known one in a byte.
     fn strange_name(&mut self) -> Name {
         let mut name = self.known_name();
-        name[self.random.pick(&[0, 1, 15, 30, 31])] ^= 1 << self.random.below(8);
+        name[self.random.below(32)] ^= 1 << self.random.below(8);
         name
     }
 

@@ -19,7 +19,7 @@ use Rattle.model.specs.declared.Height.{Height}
 use Rattle.model.specs.declared.Place.{Place}
 use Rattle.model.proofs.Lists.{or-left, or-right}
 use Rattle.tables.specs.Places.{heightAt}
-use Rattle.tables.specs.Rows.{rows}
+use Rattle.names.specs.Rows.{rows}
 use Rattle.state.specs.Tables.{NamesHeld, HeightsHeld, Held}
 use Rattle.state.specs.declared.Counts.{Counts}
 use Rattle.state.proofs.Fields.{part-at, field-at}

@@ -33,10 +33,10 @@ pub fn decide_checkpoint(
         decisionOf m s r ≡ single (decideCheckpoint m (part 1 32 s) (part 33 32 s)))
         ⌝ }
 {
-    if tables::find_name(names, count, log, at + 1) < count {
+    if names::find_name(names, count, log, at + 1) < count {
         return Decision::Refuse(Refusal::NameHeld);
     }
-    let p = tables::find_name(names, count, log, at + 33);
+    let p = names::find_name(names, count, log, at + 33);
     if count <= p {
         return Decision::Refuse(Refusal::ParentNotHeld);
     }

@@ -36,11 +36,11 @@ fn find_endpoints<'a>(names: &'a [u8], count: usize, log: &[u8], from: usize) ->
         ⌝ }
     ensures { λ r. ⌜ Within count r ⌝ }
 {
-    let s = tables::find_name(names, count, log, from);
+    let s = names::find_name(names, count, log, from);
     if count <= s {
         return LinkAnswer::Refused(Refusal::SourceNotHeld);
     }
-    let t = tables::find_name(names, count, log, from + 32);
+    let t = names::find_name(names, count, log, from + 32);
     if count <= t {
         return LinkAnswer::Refused(Refusal::TargetNotHeld);
     }

@@ -52,7 +52,7 @@ fn tree_passes(
     if !tables::tree::tree_sound(parents, heights, count) {
         return false;
     }
-    !tables::tree::names_twice(names, count)
+    !names::names_twice(names, count)
 }
 
 // Each vote is of a held member, between held places, from an ancestor, and none is held twice.

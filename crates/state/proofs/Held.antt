@@ -12,12 +12,12 @@ use Rattle.model.specs.Lists.{tabulate, firstIndex, sameBytes}
 use Rattle.model.specs.Model.{Model, Member, Checkpoint, Vote, noMember, noCheckpoint, memberIndex, placeOf, checkpointAt, idHeld, voteHeld, sameVote}
 use Rattle.model.proofs.Lists.{first-same, length-tabulate, tabulate-at, any-tabulate, any-append}
 use Rattle.tables.specs.Keys.{Packed}
-use Rattle.tables.specs.Rows.{rows}
+use Rattle.names.specs.Rows.{rows}
 use Rattle.tables.proofs.Keys.{same-pack, packed-is}
 use Rattle.search.proofs.Below.{any-more}
 use Rattle.search.proofs.Pointwise.{any-same}
 use Rattle.tables.proofs.Ancestry.{tree-tabulate}
-use Rattle.tables.proofs.Tables.{rows-length, rows-at}
+use Rattle.names.proofs.Rows.{rows-length, rows-at}
 use Rattle.state.specs.declared.Witness.{Witness}
 use Rattle.state.specs.Sound.{SizedVotes}
 use Rattle.state.specs.State.{votePart, modelOf, memberIn, checkpointIn, voteIn, withMember, withCheckpoint, withVote}

@@ -13,7 +13,7 @@ use Rattle.model.specs.declared.Height.{Height}
 use Rattle.model.specs.declared.Place.{Place}
 use Rattle.tables.specs.Keys.{pack}
 use Rattle.tables.specs.Places.{treeOf}
-use Rattle.tables.specs.Rows.{rows}
+use Rattle.names.specs.Rows.{rows}
 use Rattle.state.specs.State.{height}
 use Rattle.state.specs.declared.Counts.{Counts}
 use Rattle.state.specs.declared.Witness.{Witness}

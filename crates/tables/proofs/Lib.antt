@@ -3,4 +3,3 @@ pub mod Steps
 pub mod Ancestry
 pub mod Sound
 pub mod Keys
-pub mod Firsts

@@ -1,4 +1,3 @@
 -- What the searches over the held tables say.
-pub mod Rows
 pub mod Places
 pub mod Keys

@@ -1,3 +1,4 @@
 pub mod Parts
 pub mod Digits
+pub mod Words
 pub mod Compare

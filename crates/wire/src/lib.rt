@@ -1,11 +1,13 @@
-// Big-endian integers of 16, 32 and 64 bits, read from a slice, and of 16 bits written into one, and the comparison of
-// two runs of bytes. The widths share a loop, and so a proof. How long a record is, module `records` says.
+// Big-endian integers of 16, 32 and 64 bits, read from a slice, and of 16 bits written into one: the widths share a
+// loop, and so a proof. Words of 8 bytes in the machine's order, and the comparison of two runs of bytes. How long a
+// record is, module `records` says.
 ghost use mathlib.Core.Path.{_≡_};
 ghost use mathlib.Core.List.{_++_};
 ghost use Prim.Native.Nat.{_+_, _≤_, _<_, _^_};
 ghost use lib.ListN.{length, drop};
 ghost use Rattle.model.specs.Bytes.{field, beBytes, part};
 ghost use Rattle.model.specs.Lists.{sameBytes};
+ghost use Rattle.wire.specs.Words.{leOf};
 
 pub mod records;
 
@@ -49,6 +51,21 @@ pub fn be64(s: &[u8], at: usize) -> u64
     ensures { λ r. ⌜ r ≡ field at 8 (now (s .entry)) ⌝ }
 {
     be(s, at, 8)
+}
+
+// The integer of the 8 bytes at `at`, its first byte the lowest. This is the order of the machine, which reads such a
+// word at once: it is for comparing bytes, and no record has it.
+pub fn le64(s: &[u8], at: usize) -> u64
+    requires { ⌜ at + 8 ≤ length (now s) ⌝ }
+    ensures { λ r. ⌜ r ≡ leOf (part at 8 (now (s .entry))) ⌝ }
+{
+    let mut word: u64 = 0;
+    let mut i: usize = 8;
+    while 0 < i {
+        i -= 1;
+        word = word * 256 + wide(s[at + i]);
+    }
+    word
 }
 
 // The lowest k bytes of v, the highest of them first, at the start of what is lent; the rest of it stays.
