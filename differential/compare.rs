@@ -3,7 +3,7 @@
 use crate::library::{self, Answer, Told, REFUSED};
 use crate::paper;
 use crate::random::Random;
-use crate::reference::{self, Outcome, Reading, Refusal, Status, HEADER, MAX_MEMBERS};
+use crate::reference::{self, Outcome, Quota, Reading, Refusal, Status, HEADER, MAX_MEMBERS};
 use crate::report;
 use crate::states;
 use crate::tally::Tally;
@@ -43,6 +43,7 @@ const MANY_VOTES: usize = 1000;
 pub fn log(log: &[u8], before: &library::Witness, random: &mut Random, tally: &mut Tally) -> Result<Box<library::Replay>, String> {
     let reading = reference::read_log(log);
     tally.reading(&reading);
+    tally.quorums(&offsets(log).iter().map(|at| &log[*at..]).collect::<Vec<_>>(), &reading.outcomes);
     let replay = before.replay(log);
     match reading.stopped {
         Some((number @ (1 | 2 | 3), _)) => {
@@ -63,8 +64,9 @@ pub fn log(log: &[u8], before: &library::Witness, random: &mut Random, tally: &m
     Ok(replay)
 }
 
-// What is held: members, checkpoints and votes, each in the order of acceptance.
+// What is held: the quorum that was given, and members, checkpoints and votes, each in the order of acceptance.
 fn held(w: &library::Witness, r: &reference::Witness) -> Same {
+    same("the quorum given", (w.numbers.p, w.numbers.q), r.given.map_or((0, 0), |k| (k.p as u16, k.q as u16)))?;
     let members: Vec<(u16, u64)> = (0..w.member_count).map(|i| (w.ids[i], w.bonds[i])).collect();
     same("members", members, r.members.iter().map(|id| (*id, r.bonds[id])).collect())?;
     same("checkpoints held", w.checkpoint_count, r.checkpoints.len())?;
@@ -224,7 +226,18 @@ fn rooms(text: &[u8], random: &mut Random) -> [usize; 5] {
 fn our_list(w: &library::Witness, r: &reference::Witness, random: &mut Random, tally: &mut Tally) -> Same {
     let ours = r.list();
     lent("our list", Ok(&ours), &rooms(&ours, random), tally, |buffer| w.write_list(buffer))?;
-    list(w, r, &ours, tally)
+    list(w, r, &ours, tally)?;
+    share(w, r, &ours)
+}
+
+// Where two finals conflict, our list names the share: q × named ≥ (2p − q) × total.
+fn share(w: &library::Witness, r: &reference::Witness, ours: &[u8]) -> Same {
+    if w.conflict() != Ok(1) {
+        return Ok(());
+    }
+    let (Quota { p, q }, total) = (r.quota(), r.total());
+    let enough = w.check(ours).map(|named| q * named >= (2 * p - q) * total);
+    same("the share that our list names", enough, Ok(true))
 }
 
 // The board paper, and what it had to show.
@@ -246,6 +259,7 @@ pub fn list(w: &library::Witness, r: &reference::Witness, list: &[u8], tally: &m
 pub fn state(w: &library::Witness, log: &[u8], list: &[u8], random: &mut Random, tally: &mut Tally) -> Same {
     let sound = states::is_sound(w);
     tally.state(sound);
+    states::rule_alone(w).iter().for_each(|quota| tally.rule(*quota));
     same("row 40", w.is_sound(), sound)?;
     if sound { sound_state(w, random, tally) } else { unsound_state(w, log, list, tally) }
 }

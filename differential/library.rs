@@ -2,6 +2,14 @@
 // against the source but the comparison itself.
 use crate::reference::{MAX_CHECKPOINTS, MAX_MEMBERS, MAX_VOTES};
 
+// The numbers beside the state's arrays: `Numbers` of crates/state.
+#[repr(C)]
+#[derive(Clone, Copy, PartialEq)]
+pub struct Numbers {
+    pub p: u16,
+    pub q: u16,
+}
+
 // The state: the struct `Witness` of crates/state, field for field.
 #[repr(C)]
 #[derive(Clone, Copy, PartialEq)]
@@ -17,6 +25,7 @@ pub struct Witness {
     pub member_count: usize,
     pub checkpoint_count: usize,
     pub vote_count: usize,
+    pub numbers: Numbers,
 }
 
 #[repr(C)]
@@ -126,6 +135,7 @@ impl Witness {
             member_count: 0,
             checkpoint_count: 0,
             vote_count: 0,
+            numbers: Numbers { p: 0, q: 0 },
         })
     }
 
@@ -167,7 +177,7 @@ impl Witness {
         answer(unsafe { ffw_status(*self, Place(place)) })
     }
 
-    // The number of members, the sum of their bonds, and 1 for a supermajority.
+    // The number of members, the sum of their bonds, and 1 for a quorum.
     pub fn support(&self, source: u16, target: u16) -> Answer<(u64, u64, u64)> {
         let b = unsafe { ffw_support(*self, Place(source), Place(target)) };
         if b.refused == 0 { Ok((b.number, b.bonds, b.quorum)) } else { Err(b.refused as u8) }

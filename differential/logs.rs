@@ -34,7 +34,28 @@ struct Maker {
 }
 
 // The kinds and the bytes of a record of each.
-const KINDS: [(u8, usize); 4] = [(1, 11), (2, 65), (3, 75), (5, 89)];
+const KINDS: [(u8, usize); 5] = [(1, 11), (2, 65), (3, 75), (4, 5), (5, 89)];
+
+// p and q that are permitted, each near a bound or just what bidders ask for; and such that are not.
+const PERMITTED: [(u16, u16); 10] =
+    [(2, 3), (3, 4), (3, 5), (1, 1), (7, 7), (501, 1000), (999, 1000), (1000, 1000), (500, 999), (258, 259)];
+const FORBIDDEN: [(u16, u16); 16] = [
+    (0, 0), (0, 1), (1, 0), (2, 0), (7, 0), (65535, 0), (1, 2), (2, 4), (500, 1000), (4, 3), (1001, 1001), (1000, 1001),
+    (1001, 1000), (3, 65535), (65535, 65535), (33000, 65535),
+];
+
+// Some p and q: most likely permitted, and near a bound.
+pub fn quota(random: &mut Random) -> (u16, u16) {
+    match random.below(8) {
+        0..=3 => random.pick(&PERMITTED),
+        4 => {
+            let q = random.within(1, 1000);
+            (random.within(q / 2 + 1, q) as u16, q as u16)
+        }
+        5 => (random.within(0, 1002) as u16, random.within(0, 1002) as u16),
+        _ => random.pick(&FORBIDDEN),
+    }
+}
 
 // Log number `number` of a seed. Every twentieth has its last record cut, at each length in turn.
 pub fn log(seed: u64, number: usize) -> Vec<u8> {
@@ -54,6 +75,7 @@ pub fn log(seed: u64, number: usize) -> Vec<u8> {
         86 => m.many_bundles(),
         87..=89 => m.rivals(),
         90..=92 => m.late_source(),
+        93 => m.largest_sums(),
         _ => m.bundles(),
     }
     m.damage();
@@ -183,6 +205,13 @@ impl Maker {
         self.put_link(source, target);
     }
 
+    fn put_quorum(&mut self, (p, q): (u16, u16)) {
+        self.last_record = self.log.len();
+        self.log.push(4);
+        self.log.extend(p.to_be_bytes());
+        self.log.extend(q.to_be_bytes());
+    }
+
     // A bundle with the bits of these places.
     fn put_bundle(&mut self, places: &[usize], source: Spot, target: Spot) {
         let mut bits = [0; MAX_MEMBERS / 8];
@@ -265,7 +294,27 @@ impl Maker {
         }
     }
 
+    // Some quorums, or none.
+    fn quorums(&mut self) {
+        for _ in 0..self.random.pick(&[0, 0, 1, 1, 2]) {
+            let quota = quota(&mut self.random);
+            self.put_quorum(quota);
+        }
+    }
+
+    // Members, with quorums before them or after them.
     fn members(&mut self, count: usize) {
+        let first = self.random.one_in(2);
+        if first {
+            self.quorums();
+        }
+        self.some_members(count);
+        if !first {
+            self.quorums();
+        }
+    }
+
+    fn some_members(&mut self, count: usize) {
         let alike = self.random.one_in(2);
         for _ in 0..count {
             let id = self.some_id();
@@ -391,9 +440,10 @@ impl Maker {
         }
     }
 
-    // A record that most likely is refused.
+    // A record that most likely is refused, or quorums, which by then most likely are.
     fn odd_record(&mut self) {
-        match self.random.below(19) {
+        match self.random.below(20) {
+            19 => self.quorums(),
             0 => self.odd_member(),
             1 => {
                 let (name, parent) = (self.known_name(), self.known_name());
@@ -589,6 +639,7 @@ impl Maker {
     // The table of members, to its end and past it.
     fn many_members(&mut self) {
         self.begin();
+        self.quorums();
         let count = self.random.pick(&[20, 127, 128, 129, 131]);
         self.fill_members(count);
         self.odd_member();
@@ -618,6 +669,7 @@ impl Maker {
     // The table of votes, to its end and past it.
     fn many_votes(&mut self) {
         self.begin();
+        self.quorums();
         let members = self.random.pick(&[9, 30, 128]);
         self.fill_members(members);
         let length = self.random.within(100, 200);
@@ -648,6 +700,7 @@ impl Maker {
     // Mostly bundles, of few members or many, with single votes between them; now and then one before the members.
     fn bundles(&mut self) {
         self.begin();
+        self.quorums();
         if self.random.one_in(4) {
             self.odd_bundle();
         }
@@ -686,9 +739,10 @@ impl Maker {
     }
 
     // Links into each checkpoint from its ancestors, which vie with each other: one member has the bond of two. The
-    // first member alone is a quorum, and justifies some of them.
+    // first member alone is a quorum, by most rules, and justifies some of them.
     fn rivals(&mut self) {
         self.begin();
+        self.quorums();
         let unit = self.random.pick(&[1, MAX_BOND / 100]);
         for (id, units) in [(1, 100), (2, 2), (3, 1), (4, 1)] {
             self.member(id, units * unit);
@@ -704,6 +758,24 @@ impl Maker {
                 let (places, bundled) = (self.random.pick(&behind), self.random.one_in(4));
                 self.carry(places, source, target, bundled);
             }
+        }
+    }
+
+    // Everyone has the largest bond, and all vote, or all but one, or about half: the largest sums by the most parts.
+    fn largest_sums(&mut self) {
+        self.begin();
+        let quota = self.random.pick(&[(1000, 1000), (999, 1000), (993, 1000), (501, 1000), (500, 999)]);
+        self.put_quorum(quota);
+        for id in 0..MAX_MEMBERS as u16 {
+            self.member(id, MAX_BOND);
+        }
+        let mut source = 0;
+        for _ in 0..3 {
+            let target = self.checkpoint(source);
+            let absent = self.random.pick(&[0, 0, 1, 2, 63, 64]);
+            let places = self.member_places();
+            self.carry(&places[absent..], source, target, true);
+            source = target;
         }
     }
 
@@ -735,6 +807,7 @@ impl Maker {
             1 => self.put_member(7, 1),
             2 => drop(self.checkpoint(0)),
             3 => self.odd_vote(),
+            4 => self.put_quorum((3, 4)),
             _ => self.odd_bundle(),
         }
         self.log.truncate(start + cut);

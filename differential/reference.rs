@@ -8,6 +8,28 @@ pub const MAX_VOTES: usize = 4096;
 pub const MAX_BOND: u64 = 1_000_000_000_000;
 pub const HEADER: usize = 37;
 
+// What a quorum needs: p of q parts of all bonds.
+#[derive(Clone, Copy, PartialEq, Eq, Debug)]
+pub struct Quota {
+    pub p: u64,
+    pub q: u64,
+}
+
+// Where no record gave another.
+pub const STANDARD: Quota = Quota { p: 2, q: 3 };
+
+impl Quota {
+    // Whether bonds of `sum` are a quorum of `total`.
+    pub fn is_met(self, sum: u64, total: u64) -> bool {
+        total > 0 && u128::from(self.q) * u128::from(sum) >= u128::from(self.p) * u128::from(total)
+    }
+
+    // Not: p above q, q not below 2p, q of 0 or above 1,000.
+    pub fn is_permitted(self) -> bool {
+        !(self.p > self.q || self.q >= 2 * self.p || self.q == 0 || self.q > 1000)
+    }
+}
+
 pub type Name = [u8; 32];
 
 // A number of the table of refusals.
@@ -40,7 +62,7 @@ impl Status {
     }
 }
 
-// The members behind a link, each once; the sum of their bonds; whether that is a supermajority.
+// The members behind a link, each once; the sum of their bonds; whether that is a quorum.
 #[derive(Clone, Copy, PartialEq, Eq, Debug)]
 pub struct Backing {
     pub members: u64,
@@ -59,6 +81,8 @@ pub struct Charge {
 // What is held.
 #[derive(Clone)]
 pub struct Witness {
+    // the quorum that a record gave
+    pub given: Option<Quota>,
     pub bonds: BTreeMap<u16, u64>,
     // the ids, in the order of acceptance
     pub members: Vec<u16>,
@@ -83,8 +107,8 @@ pub enum Outcome {
 }
 
 impl Outcome {
-    // What was decided, one entry for each member, checkpoint or vote: the row that refused it, or 0. A bundle that was
-    // refused whole has one entry. A record that is unknown or cut ends the reading, and has none.
+    // What was decided, one entry for each member, checkpoint, quorum or vote: the row that refused it, or 0. A bundle
+    // that was refused whole has one entry. A record that is unknown or cut ends the reading, and has none.
     pub fn rows(&self) -> &[Refusal] {
         match self {
             Outcome::Nothing | Outcome::Refused(4 | 5) => &[],
@@ -130,6 +154,7 @@ enum Record {
     Member { id: u16, bond: u64 },
     Checkpoint { name: Name, parent: Name },
     Vote { id: u16, link: NamedLink },
+    Quorum(Quota),
     Bundle { places: Vec<usize>, link: NamedLink },
 }
 
@@ -163,6 +188,7 @@ pub fn record_length(kind: u8) -> Option<usize> {
         1 => Some(11),
         2 => Some(65),
         3 => Some(75),
+        4 => Some(5),
         5 => Some(89),
         _ => None,
     }
@@ -178,6 +204,7 @@ fn decode(rest: &[u8]) -> Result<(Record, usize), Refusal> {
         1 => Record::Member { id: integer(&rest[1..3]) as u16, bond: integer(&rest[3..11]) },
         2 => Record::Checkpoint { name: name(&rest[1..]), parent: name(&rest[33..]) },
         3 => Record::Vote { id: integer(&rest[1..3]) as u16, link: named_link(&rest[3..]) },
+        4 => Record::Quorum(Quota { p: integer(&rest[1..3]), q: integer(&rest[3..5]) }),
         _ => Record::Bundle { places: set_places(&rest[1..17]), link: named_link(&rest[17..]) },
     };
     Ok((record, length))
@@ -220,6 +247,7 @@ pub fn read_log(log: &[u8]) -> Reading {
 impl Witness {
     fn with_root(root: Name) -> Witness {
         Witness {
+            given: None,
             bonds: BTreeMap::new(),
             members: Vec::new(),
             places: HashMap::from([(root, 0)]),
@@ -246,6 +274,7 @@ impl Witness {
             Record::Member { id, bond } => self.add_member(id, bond),
             Record::Checkpoint { name, parent } => self.add_checkpoint(name, parent),
             Record::Vote { id, link } => self.add_vote(id, &link),
+            Record::Quorum(quota) => self.add_quorum(quota),
             Record::Bundle { places, link } => match self.add_bundle(&places, &link) {
                 Ok(rows) => return Outcome::Bundle(rows),
                 Err(row) => Err(row),
@@ -254,9 +283,26 @@ impl Witness {
         answer.map_or_else(Outcome::Refused, |()| Outcome::Taken)
     }
 
+    // What row 10 asks for.
+    fn members_fixed(&self) -> bool {
+        !self.votes.is_empty() || self.checkpoints.len() > 1
+    }
+
+    // Rows 63 and 64.
+    fn add_quorum(&mut self, quota: Quota) -> Result<(), Refusal> {
+        if self.members_fixed() {
+            return Err(63);
+        }
+        if !quota.is_permitted() || self.given.is_some() {
+            return Err(64);
+        }
+        self.given = Some(quota);
+        Ok(())
+    }
+
     // Rows 10 to 13.
     fn add_member(&mut self, id: u16, bond: u64) -> Result<(), Refusal> {
-        if !self.votes.is_empty() || self.checkpoints.len() > 1 {
+        if self.members_fixed() {
             return Err(10);
         }
         if bond == 0 || bond > MAX_BOND {
@@ -354,6 +400,10 @@ impl Witness {
         false
     }
 
+    pub fn quota(&self) -> Quota {
+        self.given.unwrap_or(STANDARD)
+    }
+
     pub fn total(&self) -> u64 {
         self.bonds.values().sum()
     }
@@ -362,22 +412,22 @@ impl Witness {
     pub fn backing(&self, source: usize, target: usize) -> Backing {
         let behind: &[u16] = self.links.get(&(source, target)).map_or(&[], |v| v);
         let sum = behind.iter().map(|id| self.bonds[id]).sum();
-        Backing { members: behind.len() as u64, sum, enough: is_supermajority(sum, self.total()) }
+        Backing { members: behind.len() as u64, sum, enough: self.quota().is_met(sum, self.total()) }
     }
 
-    // The supermajority links: the targets that each source has.
+    // The links with a quorum: the targets that each source has.
     fn strong_links(&self) -> HashMap<usize, Vec<usize>> {
         let total = self.total();
         let mut strong: HashMap<usize, Vec<usize>> = HashMap::new();
         for ((source, target), behind) in &self.links {
-            if is_supermajority(behind.iter().map(|id| self.bonds[id]).sum(), total) {
+            if self.quota().is_met(behind.iter().map(|id| self.bonds[id]).sum(), total) {
                 strong.entry(*source).or_default().push(*target);
             }
         }
         strong
     }
 
-    // The standing of every checkpoint: what supermajority links reach from the root is justified, and a link to a
+    // The standing of every checkpoint: what links with a quorum reach from the root is justified, and a link to a
     // child makes its source final. The root is final without one.
     pub fn statuses(&self) -> Vec<Status> {
         let strong = self.strong_links();
@@ -495,10 +545,6 @@ impl Witness {
         }
         Ok(bond)
     }
-}
-
-pub fn is_supermajority(sum: u64, total: u64) -> bool {
-    total > 0 && 3 * sum >= 2 * total
 }
 
 // Row 60, else a text at the start of the lent buffer, and its length.

@@ -1,6 +1,6 @@
-// The cases that document 01 works out, and a report of bundles and three papers worked out by hand, against the
-// reference: its own check, made before anything is compared with it.
-use crate::reference::{self, is_supermajority, Outcome};
+// The cases that document 01 works out, and a report of bundles, three papers and quorums worked out by hand, against
+// the reference: its own check, made before anything is compared with it.
+use crate::reference::{self, Outcome, Quota, STANDARD};
 
 const REPORT: &str = "refused 15 number 35
 checkpoint 0 height 0 final
@@ -30,6 +30,22 @@ member 4 bond 2 broken 0 3
 member 6 bond 3 broken 2 4
 member 9 bond 1 clear
 total 6 named 5 conflict no
+";
+
+// The report of `quorums`.
+const QUORUM_REPORT: &str = "refused 0 number 64
+refused 2 number 64
+refused 18 number 35
+refused 19 number 63
+checkpoint 0 height 0 final
+checkpoint 1 height 1 final
+checkpoint 2 height 1 final
+checkpoint 3 height 2 justified
+checkpoint 4 height 2 justified
+member 1 bond 1 clear
+member 2 bond 2 broken 1 4
+member 3 bond 1 clear
+total 4 named 2 conflict yes
 ";
 
 // The rows of the session's paper.
@@ -207,10 +223,53 @@ fn check_bundles() {
     assert_eq!(reading.outcomes[7..], expected);
 }
 
-// Every case that the document marks, the header alone as request K1 words it; the papers and the bundles.
+// The session, with the bonds 1, 2, 1 and three quarters, a quorum given before that is refused and one after it.
+fn quorums() -> Vec<u8> {
+    let mut log = header(b'r');
+    for (p, q) in [(1u16, 2u16), (3, 4), (2, 3)] {
+        log.push(4);
+        log.extend(p.to_be_bytes());
+        log.extend(q.to_be_bytes());
+    }
+    for (id, bond) in [(1, 1), (2, 2), (3, 1)] {
+        member(&mut log, id, bond);
+    }
+    log.extend(&worked()[header(b'r').len() + 3 * 11..]);
+    log.extend([4, 0, 3, 0, 4]);
+    log
+}
+
+// Bars of request K5, met and missed by one bond; p and q on both sides of each bound.
+fn check_quorums() {
+    for (p, q, sum, total, answer) in [
+        (3, 4, 75, 100, true),
+        (3, 4, 74, 100, false),
+        (3, 5, 60, 100, true),
+        (3, 5, 59, 100, false),
+        (1, 1, 100, 100, true),
+        (1, 1, 99, 100, false),
+        (501, 1000, 501, 1000, true),
+        (501, 1000, 500, 1000, false),
+        (1000, 1000, 128_000_000_000_000, 128_000_000_000_000, true),
+        (1000, 1000, 127_999_999_999_999, 128_000_000_000_000, false),
+        (1, 1, 0, 0, false),
+    ] {
+        assert_eq!(Quota { p, q }.is_met(sum, total), answer);
+    }
+    for (p, q) in [(2, 3), (3, 5), (1, 1), (501, 1000), (1000, 1000)] {
+        assert!(Quota { p, q }.is_permitted());
+    }
+    for (p, q) in [(4, 3), (1, 2), (2, 4), (500, 1000), (0, 0), (0, 1), (1, 0), (1001, 1001)] {
+        assert!(!Quota { p, q }.is_permitted());
+    }
+    assert_eq!(reference::report(&quorums()), QUORUM_REPORT);
+}
+
+// Every case that the document marks, the header alone as request K1 words it; the papers, the bundles, the quorums.
 pub fn check() {
     check_papers();
     check_bundles();
+    check_quorums();
     let log = worked();
     assert_eq!(reference::report(&log), REPORT);
     let reading = reference::read_log(&log);
@@ -218,7 +277,7 @@ pub fn check() {
     assert_eq!(reading.witness.check(LIST), Ok(1));
     assert_eq!(reference::report(&header(0)), "checkpoint 0 height 0 final\ntotal 0 named 0 conflict no\n");
     for (sum, total, answer) in [(2, 3, true), (2, 4, false), (3, 4, true), (66, 100, false), (67, 100, true), (0, 0, false)] {
-        assert_eq!(is_supermajority(sum, total), answer);
+        assert_eq!(STANDARD.is_met(sum, total), answer);
     }
     for (first, second, answer) in [
         ((0, 3), (1, 2), true),

@@ -1,11 +1,21 @@
 // States that are handed in: row 40 on the arrays, judged from the words of its row, and states with something broken.
-use crate::library::Witness;
+use crate::library::{Numbers, Witness};
+use crate::logs;
 use crate::random::Random;
-use crate::reference::{MAX_BOND, MAX_CHECKPOINTS, MAX_MEMBERS, MAX_VOTES};
+use crate::reference::{Quota, MAX_BOND, MAX_CHECKPOINTS, MAX_MEMBERS, MAX_VOTES};
 use std::collections::HashSet;
 
 // Whether row 40 lets the state pass.
 pub fn is_sound(w: &Witness) -> bool {
+    rule_sound(w) && rest_sound(w)
+}
+
+// What is given, where it alone is not sound.
+pub fn rule_alone(w: &Witness) -> Option<Quota> {
+    if !rule_sound(w) && rest_sound(w) { Some(given(w)) } else { None }
+}
+
+fn rest_sound(w: &Witness) -> bool {
     w.checkpoint_count > 0
         && w.member_count <= MAX_MEMBERS
         && w.checkpoint_count <= MAX_CHECKPOINTS
@@ -13,6 +23,19 @@ pub fn is_sound(w: &Witness) -> bool {
         && members_sound(w)
         && tree_sound(w)
         && votes_sound(w)
+}
+
+// None is given where p and q are 0; what is given is permitted.
+fn is_given(w: &Witness) -> bool {
+    (w.numbers.p, w.numbers.q) != (0, 0)
+}
+
+fn given(w: &Witness) -> Quota {
+    Quota { p: w.numbers.p.into(), q: w.numbers.q.into() }
+}
+
+fn rule_sound(w: &Witness) -> bool {
+    !is_given(w) || given(w).is_permitted()
 }
 
 fn members_sound(w: &Witness) -> bool {
@@ -53,11 +76,14 @@ fn votes_sound(w: &Witness) -> bool {
     })
 }
 
-// A log of what a sound state holds: its members, then its checkpoints, then its votes.
+// A log of what a sound state holds: the quorum given, its members, then its checkpoints, then its votes.
 pub fn log_of(w: &Witness) -> Vec<u8> {
     let name = |place: u16| &w.names[32 * usize::from(place)..][..32];
     let height = |place: u16| w.heights[usize::from(place)].to_be_bytes();
     let mut log = [b"FFW\x00\x01", name(0)].concat();
+    if is_given(w) {
+        log.extend([&[4], &w.numbers.p.to_be_bytes()[..], &w.numbers.q.to_be_bytes()].concat());
+    }
     for i in 0..w.member_count {
         log.extend([&[1], &w.ids[i].to_be_bytes()[..], &w.bonds[i].to_be_bytes()].concat());
     }
@@ -77,7 +103,7 @@ pub fn disturb(random: &mut Random, w: &mut Witness) {
     let member = random.below(w.member_count.max(1));
     let place = random.below(w.checkpoint_count.max(1));
     let vote = random.below(w.vote_count.max(1));
-    match random.below(18) {
+    match random.below(21) {
         0 => w.checkpoint_count = 0,
         1 => w.member_count = random.pick(&[129, 1000, usize::MAX]),
         2 => w.checkpoint_count = random.pick(&[513, 1 << 32, usize::MAX]),
@@ -101,7 +127,11 @@ pub fn disturb(random: &mut Random, w: &mut Witness) {
         }
         15 => w.member_count += 1,
         16 => w.checkpoint_count += 1,
-        _ => w.vote_count += 1,
+        17 => w.vote_count += 1,
+        _ => {
+            let (p, q) = logs::quota(random);
+            w.numbers = Numbers { p, q };
+        }
     }
     if random.one_in(3) {
         disturb_unheld(random, w);

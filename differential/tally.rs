@@ -1,16 +1,16 @@
 // What occurred, counted: a generator that misses a row of the table compares nothing there.
 use crate::paper::{self, Link};
-use crate::reference::{is_supermajority, Outcome, Reading, Refusal, Status, Witness, MAX_MEMBERS};
+use crate::reference::{Outcome, Quota, Reading, Refusal, Status, Witness, MAX_BOND, MAX_MEMBERS, STANDARD};
 use std::collections::BTreeMap;
 
 #[derive(Default)]
 pub struct Tally(BTreeMap<String, u64>);
 
 // Every row of the table and of the requests done, the rows that a bundle's votes may meet, every answer, what becomes
-// of bundles, and what papers have to show.
-const ROWS: [Refusal; 32] = [
+// of bundles, what a quorum that was given makes of a witness, and what papers have to show.
+const ROWS: [Refusal; 34] = [
     1, 2, 3, 4, 5, 10, 11, 12, 13, 20, 21, 22, 30, 31, 32, 33, 34, 35, 36, 40, 41, 50, 51, 52, 53, 54, 55, 56, 57, 60,
-    61, 62,
+    61, 62, 63, 64,
 ];
 const BUNDLED_ROWS: [Refusal; 6] = [31, 32, 33, 34, 35, 36];
 const ANSWERS: [&str; 9] = [
@@ -31,6 +31,18 @@ const BUNDLES: [&str; 5] = [
     "bundle that meets row 36 after a vote of its own was taken",
     "bundle of 128 votes",
 ];
+// Why p and q are not permitted, the first that applies.
+const WHY: [&str; 4] = ["p above q", "q not below 2p", "q of 0", "q above 1,000"];
+const GIVEN: [&str; 8] = [
+    "justified by a given quorum",
+    "final by a given quorum",
+    "conflict by a given quorum",
+    "given quorum just met",
+    "given quorum missed by one bond",
+    "link that the standard quorum alone would have",
+    "link that the given quorum alone has",
+    "sums at the bond limit times 1,000",
+];
 const PAPERS: [&str; 6] = [
     "paper of several pages",
     "paper with a full last page",
@@ -39,6 +51,22 @@ const PAPERS: [&str; 6] = [
     "paper row by the lowest source of equal bonds",
     "paper row that passes over more bond from a plain source",
 ];
+
+const ALREADY_GIVEN: &str = "a quorum already given";
+
+fn why(k: Quota) -> Option<&'static str> {
+    // q of 0 with a p above it is told as q of 0
+    let tests = [k.p > k.q && k.q > 0, k.q >= 2 * k.p && k.q > 0, k.q == 0, k.q > 1000];
+    tests.iter().position(|t| *t).map(|i| WHY[i])
+}
+
+fn why_refused(reason: &str) -> String {
+    format!("refused 64 by {reason}")
+}
+
+fn why_unsound(reason: &str) -> String {
+    format!("state not sound by {reason} alone")
+}
 
 fn refused_name(row: Refusal) -> String {
     format!("refused {row:2}")
@@ -71,6 +99,24 @@ impl Tally {
         }
     }
 
+    // The quorums of a log that row 64 refused, by the reason.
+    pub fn quorums(&mut self, records: &[&[u8]], outcomes: &[Outcome]) {
+        for (record, outcome) in records.iter().zip(outcomes) {
+            if *outcome == Outcome::Refused(64) {
+                let number = |at: usize| u64::from(record[at]) << 8 | u64::from(record[at + 1]);
+                let quota = Quota { p: number(1), q: number(3) };
+                self.add(&why_refused(why(quota).unwrap_or(ALREADY_GIVEN)));
+            }
+        }
+    }
+
+    // A state of which only the rule is not sound.
+    pub fn rule(&mut self, quota: Quota) {
+        if let Some(reason) = why(quota) {
+            self.add(&why_unsound(reason));
+        }
+    }
+
     pub fn state(&mut self, sound: bool) {
         if !sound {
             self.refused(40);
@@ -100,6 +146,30 @@ impl Tally {
             });
         }
         self.add(if reading.witness.conflict() { ANSWERS[3] } else { ANSWERS[4] });
+        if let Some(quota) = reading.witness.given {
+            self.given(&reading.witness, quota);
+        }
+    }
+
+    // What a quorum that was given makes of a witness; the root is left out here too.
+    fn given(&mut self, w: &Witness, quota: Quota) {
+        let status = w.statuses();
+        let any = |s: Status| status[1..].contains(&s);
+        let total = w.total();
+        let (p, q) = (quota.p, quota.q);
+        let sums: Vec<u64> = w.links.keys().map(|(s, t)| w.backing(*s, *t).sum).collect();
+        let has = |test: &dyn Fn(u64) -> bool| sums.iter().any(|sum| test(*sum));
+        let what = [
+            any(Status::Justified),
+            any(Status::Final),
+            w.conflict(),
+            has(&|sum| q * sum == p * total),
+            has(&|sum| q * sum < p * total && q * (sum + 1) >= p * total),
+            has(&|sum| !quota.is_met(sum, total) && STANDARD.is_met(sum, total)),
+            has(&|sum| quota.is_met(sum, total) && !STANDARD.is_met(sum, total)),
+            q == 1000 && total == MAX_MEMBERS as u64 * MAX_BOND && has(&|sum| sum == total),
+        ];
+        what.iter().zip(GIVEN).filter(|(occurred, _)| **occurred).for_each(|(_, name)| self.add(name));
     }
 
     // A bundle that was not refused whole, by the row of each of its votes.
@@ -131,16 +201,16 @@ impl Tally {
         }
         let status = w.statuses();
         for into in w.links_into().iter().skip(1) {
-            self.paper_row(into, &status, w.total());
+            self.paper_row(into, &status, w.quota(), w.total());
         }
     }
 
-    fn paper_row(&mut self, into: &[Link], status: &[Status], total: u64) {
+    fn paper_row(&mut self, into: &[Link], status: &[Status], quota: Quota, total: u64) {
         let Some(shown) = paper::shown(into, status) else {
             return self.add(PAPERS[2]);
         };
         let justified = |l: &Link| status[l.source].is_justified();
-        if !is_supermajority(shown.bond, total) {
+        if !quota.is_met(shown.bond, total) {
             self.add(PAPERS[3]);
         }
         // which one was chosen shows only by the number of members
@@ -156,8 +226,11 @@ impl Tally {
     pub fn missing(&self) -> Vec<String> {
         let rows = ROWS.iter().map(|row| refused_name(*row));
         let bundled = BUNDLED_ROWS.iter().map(|row| bundled_name(*row));
-        let others = ANSWERS.iter().chain(&BUNDLES).chain(&PAPERS).map(|a| a.to_string());
-        rows.chain(bundled).chain(others).filter(|what| !self.0.contains_key(what)).collect()
+        let others = ANSWERS.iter().chain(&BUNDLES).chain(&GIVEN).chain(&PAPERS).map(|a| a.to_string());
+        let refused = WHY.iter().chain([&ALREADY_GIVEN]).map(|reason| why_refused(reason));
+        let unsound = WHY.iter().map(|reason| why_unsound(reason));
+        let all = rows.chain(bundled).chain(refused).chain(unsound).chain(others);
+        all.filter(|what| !self.0.contains_key(what)).collect()
     }
 
     pub fn print(&self) {

@@ -10,7 +10,7 @@
 #
 # A log's name says what is in it. Of "paper" logs the board paper is printed, of all others the report. "row" logs show
 # a row of the table of refusals, "first" logs a record to which several rows apply, "cut" logs a last record that is
-# cut by the end, "bundle" logs what becomes of the votes of bundles.
+# cut by the end, "bundle" logs what becomes of the votes of bundles, "quorum" logs what a quorum that was given does.
 import shutil
 import subprocess
 import sys
@@ -53,6 +53,11 @@ def link(source, target):
 
 def vote(number, source, target):
     return b"\x03" + integer(number, 2) + link(source, target)
+
+
+# p of q parts of all bonds.
+def quorum(p, q):
+    return b"\x04" + integer(p, 2) + integer(q, 2)
 
 
 # A bundle of the members at these places. The bit of place p is bit p mod 8 of byte p div 8, the lowest bit being 0.
@@ -163,7 +168,6 @@ def stop_logs():
     refusals = member(1, 0) + member(1) + member(1) + checkpoint(A, X) + vote(1, ROOT, A)
     return {
         "row-04-kind-0": unknown_kind(0),
-        "row-04-kind-4": unknown_kind(4),
         "row-04-kind-6": unknown_kind(6),
         "row-04-kind-255": unknown_kind(255),
         "row-04-kind-of-the-digit-1": unknown_kind(ord("1")),
@@ -176,6 +180,7 @@ def stop_logs():
         "row-05-a-member-in-length": log(SMALL, vote(1, ROOT, A)[:11]),
         "row-05-a-checkpoint-in-length": log(SMALL, vote(1, ROOT, A)[:65]),
         "row-05-a-vote-in-length": log(SMALL, bundle([0], ROOT, A)[:75]),
+        "row-05-a-quorum-in-length": log(member(1)[:5]),
     }
 
 
@@ -188,19 +193,21 @@ def cut_lengths(record):
     return [1, len(record) // 2, len(record) - 1]
 
 
-# Each kind cut at three lengths. Every length of a vote and of a bundle, right after the header.
+# Each kind cut at three lengths. Every length of a vote, of a bundle and of a quorum, right after the header.
 def cut_logs():
     records = {
         "member": member(4),
         "checkpoint": checkpoint(X, ROOT),
         "vote": vote(2, ROOT, A),
         "bundle": bundle([1, 2], ROOT, A),
+        "quorum": quorum(3, 4),
     }
     logs = {}
     for kind, record in records.items():
         for length in cut_lengths(record):
             logs[f"cut-{kind}-{length:02}"] = cut(record, length)
-    for kind, record in {"vote": vote(1, ROOT, A), "bundle": bundle([0], ROOT, A)}.items():
+    whole = {"vote": vote(1, ROOT, A), "bundle": bundle([0], ROOT, A), "quorum": quorum(3, 4)}
+    for kind, record in whole.items():
         for length in range(1, len(record)):
             logs[f"cuts/{kind}-{length:02}"] = log(record[:length])
     return logs
@@ -623,6 +630,115 @@ def bar_logs():
     }
 
 
+# ---- Another quorum: rows 63 and 64, and bars.
+
+
+def row_63_logs():
+    return {
+        "row-63-after-a-checkpoint": log(THREE, checkpoint(A, ROOT), quorum(1, 1), votes([1, 2], ROOT, A)),
+        "row-63-after-a-vote": log(THREE, checkpoint(A, ROOT), vote(1, ROOT, A), quorum(1, 1), vote(2, ROOT, A)),
+        "row-63-not-after-members": log(THREE, quorum(3, 4), TREE, votes([1, 2], ROOT, A)),
+        "row-63-not-after-128-members": log(FULL, quorum(1, 1), TREE, votes(range(1, 128), ROOT, A)),
+        "row-63-not-after-refused-records": log(
+            THREE, checkpoint(ROOT, ROOT), checkpoint(A, X), vote(1, ROOT, ROOT), bundle([0], ROOT, ROOT), quorum(1, 1),
+            TREE, votes([1, 2], ROOT, A),
+        ),
+        "first-63-before-64": log(SMALL, quorum(1, 2), quorum(0, 0), quorum(1001, 1001), votes([1, 2], ROOT, A)),
+        "first-63-before-64-given": log(quorum(1, 1), SMALL, quorum(2, 3), votes([1, 2], ROOT, A)),
+    }
+
+
+# Two of three members vote for A, who carry it by two thirds, and not where a larger part was given.
+def after_quorum(*pairs):
+    return log(*[quorum(p, q) for p, q in pairs], SMALL, votes([1, 2], ROOT, A))
+
+
+def row_64_logs():
+    all_of = (1, 1)
+    return {
+        "row-64-p-above-q": after_quorum((4, 3)),
+        "row-64-p-equal-to-q-is-taken": after_quorum((3, 3)),
+        "row-64-q-twice-p": after_quorum((2, 4)),
+        "row-64-q-above-twice-p": after_quorum((1, 3)),
+        "row-64-q-one-below-twice-p-is-taken": log(quorum(3, 5), members(3, 2), TREE, vote(1, ROOT, A)),
+        "row-64-nothing-of-nothing": after_quorum((0, 0)),
+        "row-64-q-0": after_quorum((1, 0)),
+        "row-64-p-0": after_quorum((0, 1)),
+        "row-64-q-1001": after_quorum((1001, 1001)),
+        "row-64-q-1000-is-taken": after_quorum((1000, 1000)),
+        "row-64-500-of-1000": after_quorum((500, 1000)),
+        "row-64-501-of-1000-is-taken": log(quorum(501, 1000), members(501, 499), TREE, vote(1, ROOT, A)),
+        "row-64-greatest-numbers": after_quorum((65535, 65535)),
+        "row-64-low-bytes-of-what-is-permitted": after_quorum((0x0103, 0x0503), (0x0103, 0x0704)),
+        "row-64-already-given": after_quorum(all_of, (2, 3)),
+        "row-64-the-standard-given-counts": after_quorum((2, 3), all_of),
+        "row-64-the-same-again": after_quorum(all_of, all_of),
+        "row-64-refused-is-not-given": after_quorum((4, 3), all_of),
+    }
+
+
+def quorum_member_logs():
+    return {
+        "quorum-fixes-no-members": log(member(1), quorum(1, 1), member(2), member(3), TREE, votes([1, 2], ROOT, A)),
+        "quorum-alone": log(quorum(3, 4)),
+        "quorum-of-no-members": log(quorum(1, 1), TREE),
+        "quorum-read-big-endian": log(quorum(256, 257), members(1, 1, 1), TREE, votes([1, 2], ROOT, A)),
+    }
+
+
+# Members with these bonds; the first `number` of them vote root to A, by this quorum.
+def quorum_voters(p, q, number, *bonds):
+    return log(quorum(p, q), members(*bonds), TREE, votes(range(1, number + 1), ROOT, A))
+
+
+def quorum_bar_logs():
+    limit = [MAX_BOND] * MAX_MEMBERS
+    return {
+        "quorum-three-quarters": quorum_voters(3, 4, 1, 75, 25),
+        "quorum-below-three-quarters": quorum_voters(3, 4, 1, 74, 26),
+        "quorum-three-quarters-as-six-eighths": quorum_voters(6, 8, 1, 75, 25),
+        "quorum-three-fifths": quorum_voters(3, 5, 1, 60, 40),
+        "quorum-below-three-fifths": quorum_voters(3, 5, 1, 59, 41),
+        "quorum-all": quorum_voters(1, 1, 3, 1, 1, 1),
+        "quorum-all-but-one": quorum_voters(1, 1, 2, MAX_BOND, MAX_BOND, 1),
+        "quorum-501-of-1000": quorum_voters(501, 1000, 1, 501, 499),
+        "quorum-500-of-1000": quorum_voters(501, 1000, 1, 500, 500),
+        "quorum-999-of-1000": quorum_voters(999, 1000, 1, 999, 1),
+        "quorum-998-of-1000": quorum_voters(999, 1000, 1, 998, 2),
+        "quorum-all-128-at-the-bond-limit": quorum_voters(1000, 1000, 128, *limit),
+        "quorum-127-of-128-at-the-bond-limit": quorum_voters(1000, 1000, 127, *limit),
+        "quorum-65-of-128-at-the-bond-limit": quorum_voters(501, 1000, 65, *limit),
+        "quorum-64-of-128-at-the-bond-limit": quorum_voters(501, 1000, 64, *limit),
+    }
+
+
+# Members 1 and 2 carry A and C, 2 and 3 carry B and D: two finals that exclude each other where each pair is a quorum.
+def forked(p, q, *bonds):
+    return log(
+        quorum(p, q), members(*bonds), TREE, votes([1, 2], ROOT, A), votes([1, 2], A, C), votes([2, 3], ROOT, B),
+        votes([2, 3], B, D),
+    )
+
+
+# The share that is named where finals conflict is the least there can be: (2p - q) of q parts.
+def quorum_conflict_logs():
+    everybody = [1, 2, 3]
+    return {
+        "quorum-conflict-by-three-quarters": forked(3, 4, 1, 2, 1),
+        "quorum-no-conflict-by-three-quarters": forked(3, 4, 1, 1, 1),
+        "quorum-conflict-by-three-fifths": forked(3, 5, 2, 1, 2),
+        "quorum-no-conflict-by-three-fifths": forked(3, 5, 3, 1, 3),
+        "quorum-conflict-by-501-of-1000": forked(501, 1000, 499, 2, 499),
+        "quorum-no-conflict-by-501-of-1000": forked(501, 1000, 499, 1, 500),
+        "quorum-conflict-by-all": log(
+            quorum(1, 1), SMALL, votes(everybody, ROOT, A), votes(everybody, A, C), votes(everybody, ROOT, B),
+            votes(everybody, B, D),
+        ),
+        "quorum-final-by-bundles": log(quorum(3, 4), SMALL, bundle([0, 1, 2], ROOT, A), bundle([0, 1, 2], A, C)),
+        "quorum-not-final-by-bundles": log(quorum(3, 4), SMALL, bundle([0, 1, 2], ROOT, A), bundle([0, 1], A, C)),
+    }
+
+
 # ---- Justified and final.
 
 
@@ -823,6 +939,8 @@ def paper_logs():
         "paper-session-in-bundles": session_logs()["session-in-bundles"],
         "paper-stopped": log(members(1), checkpoint(child(ROOT, "A"), ROOT), b"\x09"),
         "paper-cut": log(members(1), checkpoint(child(ROOT, "A"), ROOT))[:-1],
+        "paper-by-three-quarters": forked(3, 4, 1, 2, 1),
+        "paper-plain-by-three-quarters": forked(3, 4, 1, 1, 1),
         "paper-wrong-header": header(mark=b"FFX"),
     }
 
@@ -860,6 +978,11 @@ GROUPS = [
     bundle_standing_logs,
     bundle_charge_logs,
     bar_logs,
+    row_63_logs,
+    row_64_logs,
+    quorum_member_logs,
+    quorum_bar_logs,
+    quorum_conflict_logs,
     standing_logs,
     conflict_logs,
     session_logs,

@@ -5,6 +5,7 @@ use model::MAX_MEMBERS;
 use model::MAX_VOTES;
 use model::NAME_BYTES;
 use model::Place;
+use state::Numbers;
 use state::Witness;
 
 pub fn blank() -> Witness {
@@ -20,5 +21,6 @@ pub fn blank() -> Witness {
         member_count: 0,
         checkpoint_count: 0,
         vote_count: 0,
+        numbers: Numbers { p: 0, q: 0 },
     }
 }

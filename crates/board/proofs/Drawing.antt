@@ -25,7 +25,7 @@ use Rattle.standing.proofs.Standing.{status-is}
 use Rattle.tables.specs.Places.{heightAt}
 use Rattle.tally.specs.declared.links.Weighed.{Weighed}
 use Rattle.tally.specs.declared.votes.Ballots.{Ballots}
-use Rattle.tally.specs.declared.voters.Quota.{Quota}
+use Rattle.tally.specs.declared.voters.Bar.{Bar}
 use Rattle.tally.specs.declared.voters.Voters.{Voters}
 use Rattle.tally.specs.Bits.{among, countBelow}
 use Rattle.tally.specs.Chains.{Walkable, Tallied}
@@ -38,8 +38,8 @@ use Rattle.board.specs.declared.row_data.RowData.{RowData}
 use Rattle.board.proofs.Rows.{held-row, missing-row}
 
 pub record Drawn (w : Witness) (a : Analysis) (who from head next numbers bonds : List ℕ) (p : ℕ) : Type 0 where
-  pub quota : Quota
-  pub ready : Ready w (record { who = who; from = from; head = head; next = next; quota = quota })
+  pub bar : Bar
+  pub ready : Ready w (record { who = who; from = from; head = head; next = next; bar = bar })
   pub standings : IsAnalysis (modelOf w) a
   pub few : w .«checkpoint_count» ≤ 512
   pub low : p ≤ w .«checkpoint_count»
@@ -50,7 +50,7 @@ pub drawn-none : {w : Witness} {b : Ballots} {a : Analysis} → Ready w b → Is
     → Drawn w a (b .who) (b .from) (b .head) (b .next) (replicate 512 0) (replicate 512 0) 0
 drawn-none {w} {b} r is =
     record {
-      quota = b .quota;
+      bar = b .bar;
       ready = r;
       standings = is;
       few = few-checkpoints w (r .sound);
@@ -82,7 +82,7 @@ module _ {w : Witness} {a : Analysis} {who from head next numbers bonds : List �
       λ s l. at .standings .justified s (omega arith) in
       let is = ready-best (at .ready) p tally (omega arith) all (a .justified) marked (at .low) in
       record {
-        quota = at .quota;
+        bar = at .bar;
         ready = at .ready;
         standings = at .standings;
         few = at .few;

@@ -7,7 +7,9 @@ use mathlib.Core.Bool.{Bool, true, false, cond, _||_, true≢false}
 use borrow.Author.Tests.{leb-true, leb-false}
 use lib.Dec.{leb}
 use lib.ListN.{length, getD}
-use Rattle.model.specs.Log.{Kind, memberKind, checkpointKind, voteKind, bundleKind, otherKind, kindOf, sizeOf, recordSize}
+use Rattle.model.specs.Log.{Kind, memberKind, checkpointKind, voteKind, quorumKind, bundleKind, otherKind, kindOf}
+use Rattle.model.specs.Log.{sizeOf}
+use Rattle.model.specs.Log.{recordSize}
 use Rattle.buffered.specs.Hold.{whole?, ready?}
 
 -- a record that is whole has its bytes
@@ -33,6 +35,7 @@ size-bound kind = go (kindOf kind)
     go memberKind = omega arith
     go checkpointKind = omega arith
     go voteKind = omega arith
+    go quorumKind = omega arith
     go bundleKind = omega arith
     go otherKind = omega arith
 

@@ -100,6 +100,14 @@ fn put_bundle(bytes: &[u8], out: &mut [u8], at: usize) -> usize
     put_link(bytes, 17, out, link)
 }
 
+fn put_quorum(bytes: &[u8], out: &mut [u8], at: usize) -> usize
+    requires { ⌜ (5 ≤ length (now bytes)) × (at + 235 ≤ length (now out)) ⌝ }
+    ensures { λ r. ⌜ r ≤ at + 235 ⌝ }
+{
+    let of = put_field(out, at, b" quorum ", wire::be16(bytes, 1) as u64);
+    put_field(out, of, b" of ", wire::be16(bytes, 3) as u64)
+}
+
 fn wide(x: u8) -> u64 {
     x as u64
 }
@@ -112,8 +120,9 @@ fn put_record(kind: u8, bytes: &[u8], out: &mut [u8], at: usize) -> usize
         1 => put_member(bytes, out, at),
         2 => put_checkpoint(bytes, out, at),
         3 => put_vote(bytes, out, at),
+        4 => put_quorum(bytes, out, at),
         5 => put_bundle(bytes, out, at),
-        0 | 4 | 6..=255 => put_field(out, at, b" unknown kind ", wide(kind)),
+        0 | 6..=255 => put_field(out, at, b" unknown kind ", wide(kind)),
     }
 }
 

@@ -8,16 +8,16 @@ use Rattle.model.specs.Model.{Checkpoint}
 use Rattle.model.specs.Support.{Support}
 use Rattle.model.specs.Tree.{ancestor?}
 use Rattle.tally.specs.declared.voters.Voters.{Voters}
-use Rattle.tally.specs.declared.voters.Quota.{Quota}
+use Rattle.tally.specs.declared.voters.Bar.{Bar}
 use Rattle.tally.specs.Bits.{among, countBelow}
 use Rattle.tally.specs.Weights.{weightOf, enough}
 use Rattle.finality.specs.declared.Backing.{Backing}
 
 -- the backing that the voters give, by the bonds of the members
-pub record IsBacking (bonds : List ℕ) (members : ℕ) (quota : Quota) (v : Voters) (b : Backing) : Type 0 where
+pub record IsBacking (bonds : List ℕ) (members : ℕ) (bar : Bar) (v : Voters) (b : Backing) : Type 0 where
   pub number : b .number ≡ countBelow memberLimit (among v)
   pub weight : b .bonds ≡ weightOf bonds members v
-  pub yes? : b .quorum ≡ enough (b .bonds) quota
+  pub yes? : b .quorum ≡ enough (b .bonds) bar
 
 -- "their number, the sum of their bonds, and yes or no"
 abbrev pub backingOf : Backing → Support

@@ -10,7 +10,7 @@ use standing::status_of;
 use standing::statuses;
 use state::Witness;
 use tally::voters;
-use tally::voters::Quota;
+use tally::voters::Bar;
 use tally::voters::Voters;
 use tally::votes;
 ghost use mathlib.Core.Path.{_≡_};
@@ -22,7 +22,7 @@ ghost use Rattle.state.specs.State.{modelOf};
 ghost use Rattle.tally.specs.Weights.{Bonds, Fits};
 ghost use Rattle.finality.specs.Answers.{IsBacking, backingOf};
 
-// The backing of a link: how many members are behind it, the sum of their bonds, and whether that is a supermajority.
+// The backing of a link: how many members are behind it, the sum of their bonds, and whether that is a quorum.
 pub struct Backing {
     pub number: u32,
     pub bonds: u64,
@@ -30,15 +30,15 @@ pub struct Backing {
 }
 
 // The backing that voters give a link.
-fn backed_by(v: Voters, bonds: &[u64], members: usize, quota: Quota) -> Backing
-    requires { ⌜ Bonds (now bonds) members × Fits quota ⌝ }
-    ensures { λ r. ⌜ IsBacking (now (bonds .entry)) members quota v r ⌝ }
+fn backed_by(v: Voters, bonds: &[u64], members: usize, bar: Bar) -> Backing
+    requires { ⌜ Bonds (now bonds) members × Fits bar ⌝ }
+    ensures { λ r. ⌜ IsBacking (now (bonds .entry)) members bar v r ⌝ }
 {
     let sum = voters::weigh(v, bonds, members);
     Backing {
         number: voters::number(v),
         bonds: sum,
-        quorum: voters::is_quorum(sum, quota),
+        quorum: voters::is_quorum(sum, bar),
     }
 }
 
@@ -62,8 +62,8 @@ pub fn support(w: Witness, s: Place, t: Place) -> Backing
         lo: lo[source],
         hi: hi[source],
     };
-    let quota = b.quota;
-    backed_by(v, &w.bonds, members, quota)
+    let bar = b.bar;
+    backed_by(v, &w.bonds, members, bar)
 }
 
 // The standing of a held place.

@@ -156,7 +156,7 @@ fn source(n: usize) -> usize
     n
 }
 
-// Who votes for a link. Five heavy members are a supermajority and four are none without middle ones.
+// Who votes for a link. Five heavy members are a quorum and four are none without middle ones.
 enum Crowd {
     FiveHeavy,
     TwoThirds,

@@ -13,10 +13,13 @@ use Rattle.model.specs.Bits.{setPlaces}
 use Rattle.model.specs.Bundle.{votesOf, GoodBundle, OfVote, is-taken, is-refused}
 use Rattle.model.specs.Bytes.{part, field}
 use Rattle.model.specs.Change.{Change, Told, nothingLeft, taken, bundled, Decision, decided, single, oneVote, together, whole}
-use Rattle.model.specs.Decide.{decideMember, decideCheckpoint, decideVote, decideEach, bundleIds, bitWithoutMember, noBitSet, decideBundle, decideRecord, decide}
+use Rattle.model.specs.Decide.{decideMember, decideCheckpoint, decideVote, decideEach, bundleIds, bitWithoutMember}
+use Rattle.model.specs.Decide.{noBitSet}
+use Rattle.model.specs.Decide.{decideBundle, decideQuorum, decideRecord, decide}
 use Rattle.model.specs.Lists.{any, All, none, each}
-use Rattle.model.specs.Log.{Kind, memberKind, checkpointKind, voteKind, bundleKind, otherKind, kindOf, sizeOf, recordSize}
-use Rattle.model.specs.Log.{Record, cutRecord, decodeAs, decode}
+use Rattle.model.specs.Log.{Kind, memberKind, checkpointKind, voteKind, quorumKind, bundleKind, otherKind, kindOf}
+use Rattle.model.specs.Log.{sizeOf}
+use Rattle.model.specs.Log.{Record, cutRecord, recordSize, decodeAs, decode}
 use Rattle.model.specs.Model.{Model}
 use Rattle.model.specs.Report.{outcomeLine, outcomeLines}
 use Rattle.model.specs.Run.{Event, reading, OfBytes, decideEvent, after, outcomes}
@@ -196,18 +199,26 @@ module _ (m : Model) (b : ℕ) (s : List ℕ) where
       on true = tt
       on false = h
 
-  others : (one two three five : Bool) → five ≡ false
-      → ByKind (cond one memberKind (cond two checkpointKind (cond three voteKind (cond five bundleKind otherKind))))
+  others : (one two three four five : Bool) → five ≡ false
+      → ByKind
+      (cond one memberKind
+      (cond two checkpointKind (cond three voteKind (cond four quorumKind (cond five bundleKind otherKind)))))
   unfolding decideRecord decodeAs single
-  others true two three five e = if-whole memberKind (single-plain (decideMember m (record { id = field 1 2 all; bond = field 3 8 all })))
-  others false true three five e = if-whole checkpointKind (single-plain (decideCheckpoint m (part 1 32 all) (part 33 32 all)))
-  others false false true five e = if-whole voteKind (single-plain (decideVote m (field 1 2 all) (part 3 32 all) (part 35 32 all) (field 67 4 all) (field 71 4 all)))
-  others false false false true e = absurd (clash refl e)
-  others false false false false e = if-whole otherKind tt
+  others true two three four five e =
+      if-whole memberKind (single-plain (decideMember m (record { id = field 1 2 all; bond = field 3 8 all })))
+  others false true three four five e =
+      if-whole checkpointKind (single-plain (decideCheckpoint m (part 1 32 all) (part 33 32 all)))
+  others false false true four five e =
+      if-whole voteKind
+      (single-plain (decideVote m (field 1 2 all) (part 3 32 all) (part 35 32 all) (field 67 4 all) (field 71 4 all)))
+  others false false false true five e =
+      if-whole quorumKind (single-plain (decideQuorum m (record { p = field 1 2 all; q = field 3 2 all })))
+  others false false false false true e = absurd (clash refl e)
+  others false false false false false e = if-whole otherKind tt
 
   no-bundle : eqb b 5 ≡ false → Plain (decide m all .told)
   unfolding decide decode recordSize kindOf
-  no-bundle e = others (eqb b 1) (eqb b 2) (eqb b 3) (eqb b 5) e
+  no-bundle e = others (eqb b 1) (eqb b 2) (eqb b 3) (eqb b 4) (eqb b 5) e
 
   module _ (kind : b ≡ 5) where
     cut-bundle : length all < 89 → Plain (decide m all .told)

@@ -1,5 +1,5 @@
 -- Demand 3, proved: the witness after a run holds the model after the run, and every call answers by it.
-use Prim.Native.Nat.{ℕ}
+use Prim.Native.Nat.{ℕ, _*_, _≤_}
 use native.Mathlib.Omega.{arith}
 use mathlib.Core.Path.{_≡_, refl, sym, ap, ap₂, _∙_, subst}
 use mathlib.Core.List.{List, [], _∷_}
@@ -12,8 +12,9 @@ use Rattle.model.specs.Checker.{check}
 use Rattle.model.specs.Decide.{decide}
 use Rattle.model.specs.Evidence.{ourList}
 use Rattle.model.specs.Lists.{All, none, each}
-use Rattle.model.specs.Model.{Model, start}
+use Rattle.model.specs.Model.{Model, start, quota}
 use Rattle.model.specs.Paper.{paper}
+use Rattle.model.specs.Rule.{Rule, standard, quotaOf}
 use Rattle.model.specs.Run.{Event, reading, OfBytes, decideEvent, after, outcomes}
 use Rattle.model.specs.WellFormed.{WellFormed}
 use Rattle.model.proofs.Best.{best-exact}
@@ -23,6 +24,7 @@ use Rattle.model.proofs.Conduct.{conduct-exact}
 use Rattle.model.proofs.Finality.{status-exact, root-answer, conflict-exact}
 use Rattle.model.proofs.Paper.{paper-exact}
 use Rattle.model.proofs.Readings.{readings-bound, readings-bytes}
+use Rattle.model.proofs.Standard.{standard-kept}
 use Rattle.safety.proofs.Safety.{accountable-safety, no-innocent-named}
 use Rattle.state.specs.Sound.{Sound}
 use Rattle.state.specs.State.{emptyWitness, modelOf, stored}
@@ -99,6 +101,7 @@ module _ (w : Witness) (b : Model) (h : Holds w b) where
   unfolding statusCall supportCall conflictCall writeCall checkCall
   by-the-rules = record {
     held = h .model;
+    permitted = good w b h .rule;
     status-answer = λ p. answered w b h _;
     status-exact = status-exact b (good w b h);
     root-final = answered w b h _ ∙ root-answer b (good w b h);
@@ -122,6 +125,11 @@ module _ (w : Witness) (b : Model) (h : Holds w b) where
 pub demand-2 : Demand2
 demand-2 w typed sound = by-the-rules w (modelOf w) (record { model = refl; sound = sound-true w typed sound })
 
+-- 2 of 3 parts are two thirds
+standard-most : (b : Model) → b .rule ≡ standard → 2 * quota b .q ≤ 3 * quota b .p
+unfolding quotaOf
+standard-most b e = subst (λ (r : Rule). 2 * quotaOf r .q ≤ 3 * quotaOf r .p) (sym e) (omega arith)
+
 pub demand-3 : Demand3
 demand-3 name long es bytes =
     let h = run-holds (emptyWitness name) (start name) (start-holds name long) es bytes in
@@ -129,6 +137,10 @@ demand-3 name long es bytes =
       outcomes-agree = run-told (emptyWitness name) (start name) (start-holds name long) es bytes;
       answers = by-the-rules (witnessAfter (emptyWitness name) es) (after (start name) es) h;
       share = accountable-safety name es bytes;
+      standard-rule = standard-kept name es;
+      third = λ none-given finals.
+          accountable-safety name es bytes finals .third
+          (standard-most (after (start name) es) (standard-kept name es none-given));
     }
 
 pub records-bytes : (limit : ℕ) (log : List ℕ) → AreBytes log → All OfBytes (recordsOf limit log)

@@ -12,8 +12,9 @@ use Rattle.model.specs.Checker.{check}
 use Rattle.model.specs.Evidence.{ourList, violator?}
 use Rattle.model.specs.Exact.{StatusExact, ConflictExact, ConductExact, ListExact, CheckerExact, PaperExact, BestExact}
 use Rattle.model.specs.Finality.{statusAt, conflicting?}
-use Rattle.model.specs.Model.{Model}
+use Rattle.model.specs.Model.{Model, quota}
 use Rattle.model.specs.Paper.{paper}
+use Rattle.model.specs.Rule.{Permitted}
 use Rattle.model.specs.declared.Status.the-variants.{Final as FinalStatus}
 use Rattle.model.specs.Support.{supportAt, sum}
 use Rattle.safety.specs.Share.{NamesViolators}
@@ -24,8 +25,10 @@ use Rattle.witness.specs.Calls.{statusCall, supportCall, conflictCall, writeCal
 
 -- every call on `w` answers for the model `b`
 pub record ByTheRules (w : Witness) (b : Model) : Type 0 where
-  -- "the members, checkpoints and votes held are the book's, in its order"
+  -- "the members, checkpoints and votes held are the book's, in its order", and so is the rule for a quorum, which is
+  -- permitted
   pub held : modelOf w ≡ b
+  pub permitted : Permitted (quota b)
   -- the standings: the call's answer, and what it means
   pub status-answer : (p : ℕ) → statusCall w p ≡ statusAt b p
   pub status-exact : (p : ℕ) → StatusExact b p

@@ -2,7 +2,7 @@
 -- empty, each meeting what the last one left. Outcomes and answers are what the public calls' contracts cite, on the witness;
 -- the share, and what the answers mean, are said of the reference model, document 01's book, which sees the root's name and
 -- the bytes read only.
-use Prim.Native.Nat.{ℕ}
+use Prim.Native.Nat.{ℕ, _*_, _≤_}
 use mathlib.Core.Path.{_≡_}
 use mathlib.Core.List.{List, [], _∷_}
 use lib.ListN.{length}
@@ -11,7 +11,9 @@ use Rattle.model.specs.Change.{Told}
 use Rattle.model.specs.Finality.{ConflictingFinals}
 use Rattle.model.specs.Lists.{All}
 use Rattle.model.specs.Model.{Model, start}
-use Rattle.model.specs.Run.{Event, OfBytes, after, outcomes}
+use Rattle.model.specs.Rule.{standard}
+use Rattle.model.specs.Run.{Event, OfBytes, NoQuorum, after, outcomes}
+use Rattle.model.specs.Support.{total}
 use Rattle.safety.specs.Share.{ShareNamed}
 use Rattle.state.specs.State.{emptyWitness, stored}
 use Rattle.state.specs.declared.Witness.{Witness}
@@ -34,11 +36,14 @@ pub record Guarantee (name : List ℕ) (es : List Event) (w : Witness) (b : Mode
   -- "each record was taken, or refused with the same number", and of a bundle each of its votes; 40 never occurs, as
   -- the book has no such row
   pub outcomes-agree : toldOf (emptyWitness name) es ≡ outcomes (start name) es
-  -- the held lists, the standings, the support, the conflict answer, our list, the board paper and the
-  -- checker: the fields of ByTheRules
+  -- the held lists, the rule for a quorum, the standings, the support, the conflict answer, our list, the board paper
+  -- and the checker: the fields of ByTheRules
   pub answers : ByTheRules w b
-  -- "If two conflicting checkpoints are final by the book, our list passes .. and names at least a third of all bonds."
+  -- "If two conflicting checkpoints are final by the book, our list passes" and names the share of the held rule
   pub share : ConflictingFinals b → ShareNamed b
+  -- "Without the record it is 2 and 3", and our list "names at least a third of all bonds": 3 × sum ≥ total
+  pub standard-rule : All NoQuorum es → b .rule ≡ standard
+  pub third : All NoQuorum es → (finals : ConflictingFinals b) → total (b .members) ≤ 3 * share finals .named
 
 -- for every root name and every list of readings of bytes
 abbrev pub Demand3 : Type 0

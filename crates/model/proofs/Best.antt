@@ -125,7 +125,7 @@ module _ (m : Model) (good : WellFormed m) (t : ℕ) where
     where
       unbacked : support m (t + d) t ≡ unsupported
       unbacked =
-          nobody-behind m (t + d) t (λ f. omega
+          nobody-behind m (good .rule) (t + d) t (λ f. omega
           (arith, ancestor-later (m .checkpoints) (good .tree) (voter-climbs m good (t + d) t f)))
 
       later : justified? m (t + d) ≡ true → bestBelow m t (suc (t + d)) ≡ bestBelow m t (t + d)

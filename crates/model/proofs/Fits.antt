@@ -7,22 +7,25 @@ use borrow.Author.Tests.{leb-false}
 use lib.ListN.{length, drop, length-take, length-drop, length-append}
 use Rattle.model.specs.Answer.{Answer, refused}
 use Rattle.model.specs.Bytes.{AreBytes}
-use Rattle.model.specs.Change.{Change, addMember, addCheckpoint, addVote, append, appendAll, Decision, single}
-use Rattle.model.specs.Change.{decided, together, whole}
+use Rattle.model.specs.Change.{Change, addMember, addCheckpoint, addVote, giveQuota, append, appendAll}
+use Rattle.model.specs.Change.{Decision, single, decided, together, whole}
 use Rattle.model.specs.Decide.{decideVote, decideEach, decideRecord, decide}
 use Rattle.model.specs.Limits.{memberLimit, checkpointLimit, voteLimit}
 use Rattle.model.specs.Log.{Record}
 use Rattle.model.specs.Model.{Model}
+use Rattle.model.specs.Rule.{Permitted}
 use Rattle.model.proofs.Bytes.{field-below}
 use Rattle.model.proofs.Lists.{all-of}
 use Rattle.model.proofs.Log.{decode-elim}
-use Rattle.model.proofs.Rows.{memberRows, checkpointRows, voteRows, bundleRows, member-elim, checkpoint-elim}
-use Rattle.model.proofs.Rows.{vote-elim, bundle-elim}
+use Rattle.model.proofs.Rule.{quorum-permitted}
+use Rattle.model.proofs.Rows.{memberRows, checkpointRows, voteRows, bundleRows, quorumRows, member-elim}
+use Rattle.model.proofs.Rows.{checkpoint-elim, vote-elim, bundle-elim, quorum-elim}
 
 abbrev pub Fits : Model → Change → Type 0
 Fits m (addMember x) = (length (m .members) < memberLimit) × (x .id < 2 ^ 16)
 Fits m (addCheckpoint c) = (length (m .checkpoints) < checkpointLimit) × (length (c .name) ≡ 32)
 Fits m (addVote v) = length (m .votes) < voteLimit
+Fits m (giveQuota k) = Permitted k
 
 -- each fits what the ones before it left
 pub data FitAll : Model → List Change → Type 0 where
@@ -46,6 +49,7 @@ unfolding appendAll append
 fit-votes m [] no-change few = few
 fit-votes m (addMember x ∷ cs) (one-change fit rest) few = fit-votes (append m (addMember x)) cs rest few
 fit-votes m (addCheckpoint c ∷ cs) (one-change fit rest) few = fit-votes (append m (addCheckpoint c)) cs rest few
+fit-votes m (giveQuota k ∷ cs) (one-change fit rest) few = fit-votes (append m (giveQuota k)) cs rest few
 fit-votes m (addVote v ∷ cs) (one-change fit rest) few =
     fit-votes (append m (addVote v)) cs rest (omega (arith, length-append (m .votes) (v ∷ []), fit))
 
@@ -93,4 +97,7 @@ module _ (m : Model) where
             (λ p. one-change (leb-false _ _ (p .fits), length-take 32 (drop 1 s) ∙ omega (arith, length-drop 1 s)) no-change);
         vote = λ _. vote-fits m _ _ _ _ _;
         bundle = λ _. bundle-elim m FitWhole _ _ _ _ _ (all-of none-added bundleRows) (λ _. each-fit m _ _ _ _ _);
+        quorum = λ _.
+            quorum-elim m (Fit m) _ (all-of (nothing-added m) quorumRows)
+            (λ p. one-change (quorum-permitted m _ (p .right)) no-change);
       })

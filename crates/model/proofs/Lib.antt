@@ -5,6 +5,7 @@ pub mod Refusals
 pub mod Buffer
 pub mod Bytes
 pub mod Log
+pub mod Rule
 pub mod Rows
 pub mod Fits
 pub mod Tree
@@ -19,8 +20,10 @@ pub mod Charges
 pub mod Checker
 pub mod Sound
 pub mod Run
+pub mod Standard
 pub mod Readings
 pub mod Refused
 pub mod Bundle
 pub mod Cases
 pub mod BundleCases
+pub mod QuorumCases

@@ -10,8 +10,8 @@ use lib.Seq.{drop-cons}
 use lib.Dec.{ltb}
 use Rattle.model.specs.Bytes.{part, field}
 use Rattle.model.specs.Log.{Record, noRecord, unknownKind, cutRecord, memberRecord, checkpointRecord, voteRecord}
-use Rattle.model.specs.Log.{bundleRecord, Kind, memberKind, checkpointKind, voteKind, bundleKind, otherKind}
-use Rattle.model.specs.Log.{kindOf, sizeOf, decodeAs, recordSize, decode, recordLength}
+use Rattle.model.specs.Log.{bundleRecord, quorumRecord, Kind, memberKind, checkpointKind, voteKind, quorumKind}
+use Rattle.model.specs.Log.{bundleKind, otherKind, kindOf, sizeOf, decodeAs, recordSize, decode, recordLength}
 
 -- what is to be shown for each kind of record at the start of s, where it is whole
 pub record EachRecord (P : Record → ℕ → Type 0) (s : List ℕ) : Type 0 where
@@ -23,6 +23,7 @@ pub record EachRecord (P : Record → ℕ → Type 0) (s : List ℕ) : Type 0 wh
   pub vote : 75 ≤ length s → P (voteRecord (field 1 2 s) (part 3 32 s) (part 35 32 s) (field 67 4 s) (field 71 4 s)) 75
   pub bundle : 89 ≤ length s
       → P (bundleRecord (part 1 16 s) (part 17 32 s) (part 49 32 s) (field 81 4 s) (field 85 4 s)) 89
+  pub quorum : 5 ≤ length s → P (quorumRecord (field 1 2 s) (field 3 2 s)) 5
 
 pub decode-elim : (P : Record → ℕ → Type 0) (s : List ℕ) → EachRecord P s → P (decode s) (recordLength s)
 unfolding decode recordLength decodeAs recordSize sizeOf
@@ -37,15 +38,18 @@ decode-elim P (b ∷ s) h = go (kindOf b) (ltb (length (b ∷ s)) (sizeOf (kindO
     go memberKind false e = h .member (ltb-false _ _ e)
     go checkpointKind false e = h .checkpoint (ltb-false _ _ e)
     go voteKind false e = h .vote (ltb-false _ _ e)
+    go quorumKind false e = h .quorum (ltb-false _ _ e)
     go bundleKind false e = h .bundle (ltb-false _ _ e)
     go otherKind false e = h .unknown
 
 -- ---- by the first byte
 
 -- a byte that begins no record
-pub other-kind : (b : ℕ) → (b ≡ 1 → ⊥) → (b ≡ 2 → ⊥) → (b ≡ 3 → ⊥) → (b ≡ 5 → ⊥) → kindOf b ≡ otherKind
+pub other-kind : (b : ℕ) → (b ≡ 1 → ⊥) → (b ≡ 2 → ⊥) → (b ≡ 3 → ⊥) → (b ≡ 4 → ⊥) → (b ≡ 5 → ⊥)
+    → kindOf b ≡ otherKind
 unfolding kindOf
-other-kind b one two three five = rw (ne-eqb b 1 one, ne-eqb b 2 two, ne-eqb b 3 three, ne-eqb b 5 five)
+other-kind b one two three four five =
+    rw (ne-eqb b 1 one, ne-eqb b 2 two, ne-eqb b 3 three, ne-eqb b 4 four, ne-eqb b 5 five)
 
 -- what stands at the start of t, and the bytes that reading on passes over
 pub record Begins (t : List ℕ) (r : Record) (n : ℕ) : Type 0 where

@@ -20,7 +20,7 @@ use Rattle.model.specs.Run.{Event, reading, decideEvent, outcomes, OfByt
 use Rattle.model.proofs.Bytes.{drop-bytes}
 use Rattle.model.proofs.Lists.{clash, all-map}
 use Rattle.model.proofs.Log.{decode-elim}
-use Rattle.model.proofs.Rows.{member-elim, checkpoint-elim, vote-elim, bundle-elim}
+use Rattle.model.proofs.Rows.{member-elim, checkpoint-elim, vote-elim, bundle-elim, quorum-elim}
 
 -- ---- the bound
 
@@ -98,6 +98,7 @@ module _ (m : Model) where
         vote = λ _ _.
             vote-elim m GoesOn _ _ _ _ _ (each refl (each refl (each refl (each refl (each refl (each refl (each refl none))))))) (λ _ _. refl);
         bundle = λ _ _. bundle-elim m WholeGoesOn _ _ _ _ _ (each refl (each refl none)) (λ _. refl);
+        quorum = λ _ _. quorum-elim m GoesOn _ (each refl (each refl none)) (λ _. refl);
       })
 
 -- the outcomes before the last do not stop

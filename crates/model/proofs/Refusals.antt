@@ -13,7 +13,7 @@ use Rattle.model.specs.declared.Refusal.the-variants.{BondOutOfRange, Id
 use Rattle.model.specs.declared.Refusal.the-variants.{VoterNotHeld, SourceNotHeld, TargetNotHeld, WrongHeight, NotAncestor, VoteHeld}
 use Rattle.model.specs.declared.Refusal.the-variants.{VotesFull, UnsoundState, PlaceNotHeld, ListLength, ListMark, ListVersion}
 use Rattle.model.specs.declared.Refusal.the-variants.{IdNotRising, ChargedNotHeld, NotOwnVote, NotEarlier, NoViolation, BufferTooShort}
-use Rattle.model.specs.declared.Refusal.the-variants.{BitWithoutMember, NoBitSet}
+use Rattle.model.specs.declared.Refusal.the-variants.{BitWithoutMember, NoBitSet, QuorumFixed, BadQuorum}
 
 -- the table's cases in its order
 unfoldable pub refusals : List Refusal
@@ -23,7 +23,7 @@ refusals =
     ∷ VoterNotHeld ∷ SourceNotHeld ∷ TargetNotHeld ∷ WrongHeight ∷ NotAncestor ∷ VoteHeld
     ∷ VotesFull ∷ UnsoundState ∷ PlaceNotHeld ∷ ListLength ∷ ListMark ∷ ListVersion
     ∷ IdNotRising ∷ ChargedNotHeld ∷ NotOwnVote ∷ NotEarlier ∷ NoViolation ∷ BufferTooShort
-    ∷ BitWithoutMember ∷ NoBitSet ∷ []
+    ∷ BitWithoutMember ∷ NoBitSet ∷ QuorumFixed ∷ BadQuorum ∷ []
 
 -- the refusal with a number; the first of the table where no refusal has it
 unfoldable pub refusalOf : ℕ → Refusal
@@ -63,6 +63,8 @@ refusal-back NoViolation = refl
 refusal-back BufferTooShort = refl
 refusal-back BitWithoutMember = refl
 refusal-back NoBitSet = refl
+refusal-back QuorumFixed = refl
+refusal-back BadQuorum = refl
 
 pub refusal-number-injective : (a b : Refusal) → refusalNumber a ≡ refusalNumber b → a ≡ b
 refusal-number-injective a b e = sym (refusal-back a) ∙ ap refusalOf e ∙ refusal-back b
@@ -101,3 +103,5 @@ refusal-small NoViolation = (omega arith, omega arith)
 refusal-small BufferTooShort = (omega arith, omega arith)
 refusal-small BitWithoutMember = (omega arith, omega arith)
 refusal-small NoBitSet = (omega arith, omega arith)
+refusal-small QuorumFixed = (omega arith, omega arith)
+refusal-small BadQuorum = (omega arith, omega arith)

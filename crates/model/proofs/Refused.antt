@@ -7,7 +7,7 @@ use Rattle.model.specs.Answer.{Answer, refused, answer}
 use Rattle.model.specs.Change.{Change, Decision, single, together, whole}
 use Rattle.model.specs.Decide.{decideRecord, decide}
 use Rattle.model.specs.Log.{Record, noRecord, unknownKind, cutRecord, memberRecord, checkpointRecord, voteRecord}
-use Rattle.model.specs.Log.{bundleRecord, decode}
+use Rattle.model.specs.Log.{bundleRecord, quorumRecord, decode}
 use Rattle.model.specs.Model.{Model}
 use Rattle.model.specs.Run.{Event, reading, decideEvent}
 
@@ -33,6 +33,7 @@ record-keeps m (memberRecord id bond) = single-keeps _
 record-keeps m (checkpointRecord name parent) = single-keeps _
 record-keeps m (voteRecord id source target sourceHeight targetHeight) = single-keeps _
 record-keeps m (bundleRecord bits source target sourceHeight targetHeight) = whole-keeps _
+record-keeps m (quorumRecord p q) = single-keeps _
 
 pub refused-keeps : (m : Model) (e : Event) → Keeps (decideEvent m e)
 unfolding decideEvent decide

@@ -7,12 +7,14 @@ use mathlib.Core.Bool.{false, not}
 use lib.ListN.{length}
 use lib.Dec.{leb}
 use Rattle.model.specs.Answer.{Answer, refused, answer, andThen}
-use Rattle.model.specs.Change.{Change, addMember, addCheckpoint, addVote, Decision}
+use Rattle.model.specs.Change.{Change, addMember, addCheckpoint, addVote, giveQuota, Decision}
 use Rattle.model.specs.Decide.{membersFixed, bondOutOfRange, decideMember, newCheckpoint, decideCheckpoint, heightsAgree, newLink, linkBetween, linkOf, cast, voteOf, room, decideVote}
-use Rattle.model.specs.Decide.{decideEach, bundleIds, bitWithoutMember, noBitSet, decideBundle}
+use Rattle.model.specs.Decide.{decideEach, bundleIds, bitWithoutMember, noBitSet, decideBundle, badQuorum}
+use Rattle.model.specs.Decide.{decideQuorum}
 use Rattle.model.specs.Limits.{memberLimit, checkpointLimit, voteLimit}
 use Rattle.model.specs.Lists.{All, none, each}
 use Rattle.model.specs.Model.{Model, Member, Vote, Link, placeOf, idHeld, nameHeld, voteFor, voteHeld}
+use Rattle.model.specs.declared.Quota.{Quota}
 use Rattle.model.specs.Tree.{ancestor?}
 use Rattle.model.proofs.Answer.{row-elim}
 
@@ -27,6 +29,9 @@ voteRows = 30 ∷ 31 ∷ 32 ∷ 33 ∷ 34 ∷ 35 ∷ 36 ∷ []
 
 abbrev pub bundleRows : List ℕ
 bundleRows = 61 ∷ 62 ∷ []
+
+abbrev pub quorumRows : List ℕ
+quorumRows = 63 ∷ 64 ∷ []
 
 -- a member's record that passes its rows
 pub record MemberPasses (m : Model) (x : Member) : Type 0 where
@@ -59,6 +64,11 @@ pub record BundlePasses (m : Model) (bits : List ℕ) : Type 0 where
   pub members : bitWithoutMember m bits ≡ false
   pub some : noBitSet bits ≡ false
 
+-- a quorum's
+pub record QuorumPasses (m : Model) (k : Quota) : Type 0 where
+  pub unfixed : membersFixed m ≡ false
+  pub right : badQuorum m k ≡ false
+
 pub bundle-elim : (m : Model) (P : Answer (List Decision) → Type 0) (bits source target : List ℕ) (sourceHeight targetHeight : ℕ)
     → All (λ n. P (refused n)) bundleRows
     → (BundlePasses m bits → P (answer (decideEach m (bundleIds m bits) source target sourceHeight targetHeight)))
@@ -87,6 +97,14 @@ module _ (m : Model) (P : Answer Change → Type 0) where
       row-elim P 21 _ _ r21 λ held.
       row-elim P 22 _ _ r22 λ fits.
       taken (record { fresh = fresh; held = held; fits = fits })
+
+  pub quorum-elim : (k : Quota) → All (λ n. P (refused n)) quorumRows
+      → (QuorumPasses m k → P (answer (giveQuota k))) → P (decideQuorum m k)
+  unfolding decideQuorum
+  quorum-elim k (each r63 (each r64 none)) taken =
+      row-elim P 63 _ _ r63 λ unfixed.
+      row-elim P 64 _ _ r64 λ right.
+      taken (record { unfixed = unfixed; right = right })
 
   pub vote-elim : (id : ℕ) (source target : List ℕ) (sourceHeight targetHeight : ℕ) → All (λ n. P (refused n)) voteRows
       → (VotePasses m id source target sourceHeight targetHeight → leb voteLimit (length (m .votes)) ≡ false → P (answer (addVote (newVote m id source target))))

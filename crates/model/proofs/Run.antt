@@ -11,29 +11,27 @@ use Rattle.model.specs.Answer.{Answer, refused, answer}
 use Rattle.model.specs.Bytes.{AreBytes}
 use Rattle.model.specs.Change.{Change, addVote, append, appendAll, Decision, single, decided, together, whole}
 use Rattle.model.specs.Decide.{membersFixed, bondOutOfRange, decideMember, newCheckpoint, decideCheckpoint, decideVote}
-use Rattle.model.specs.Decide.{decideEach, decideRecord, decide}
+use Rattle.model.specs.Decide.{decideEach, decideQuorum, decideRecord, decide}
 use Rattle.model.specs.Limits.{memberLimit, checkpointLimit, voteLimit, bondLimit}
 use Rattle.model.specs.Lists.{sameBytes, All, none, each}
 use Rattle.model.specs.Log.{Record}
 use Rattle.model.specs.Model.{Model, Member, Checkpoint, Vote, start, idHeld, nameHeld}
 use Rattle.model.specs.Model.{memberAt, checkpointAt, voteAt, heightOf, parentOf, memberIndex, placeOf, sameVote, voteHeld, noMember, noCheckpoint, noVote}
+use Rattle.model.specs.Rule.{quotaOf}
+use Rattle.model.specs.declared.Quota.{Quota}
 use Rattle.model.specs.Run.{Event, reading, decideEvent, after, OfBytes}
 use Rattle.model.specs.Tree.{Child, Ancestor, near, far, ancestor?}
 use Rattle.model.specs.WellFormed.{GoodMembers, GoodTree, GoodVote, WellFormed}
 use Rattle.model.proofs.Bytes.{field-below}
 use Rattle.model.proofs.Growth.{grown-length, grown-old, grown-new, grown-all, grown-pairs}
-use Rattle.model.proofs.Lists.{all-of, any-first, first-passes, none-any, or-left, or-right, clash, not-so, same-eq, eq-same}
+use Rattle.model.proofs.Lists.{all-of, any-first, first-passes, none-any, or-false-left, or-false-right}
+use Rattle.model.proofs.Lists.{clash, not-so, same-eq, eq-same}
 use Rattle.model.proofs.Log.{decode-elim}
 use Rattle.model.proofs.Fits.{append-both}
-use Rattle.model.proofs.Rows.{memberRows, checkpointRows, voteRows, bundleRows, member-elim, checkpoint-elim}
-use Rattle.model.proofs.Rows.{newVote, vote-elim, bundle-elim}
+use Rattle.model.proofs.Rule.{standard-permitted, quorum-permitted}
+use Rattle.model.proofs.Rows.{memberRows, checkpointRows, voteRows, bundleRows, quorumRows, member-elim}
+use Rattle.model.proofs.Rows.{checkpoint-elim, newVote, vote-elim, bundle-elim, quorum-elim}
 use Rattle.model.proofs.Tree.{ancestor-true}
-
-or-false-left : (a b : Bool) → (a || b) ≡ false → a ≡ false
-or-false-left a b e = not-so (λ h. clash (or-left a b h) e)
-
-or-false-right : (a b : Bool) → (a || b) ≡ false → b ≡ false
-or-false-right a b e = not-so (λ h. clash (or-right a b h) e)
 
 -- ---- what held and not held mean
 
@@ -130,6 +128,7 @@ module _ (m : Model) (good : WellFormed m) where
       let low : 0 < x .bond = positive (x .bond) (or-false-left (eqb (x .bond) 0) (ltb bondLimit (x .bond)) (p .bond)) in
       let high : x .bond ≤ bondLimit = ltb-false bondLimit (x .bond) (or-false-right (eqb (x .bond) 0) (ltb bondLimit (x .bond)) (p .bond)) in
       record {
+        rule = good .rule;
         members = members-grow (m .members) x (good .members) (leb-false memberLimit (length (m .members)) (p .fits)) id16 low high (id-not-held m (x .id) (p .fresh));
         tree = good .tree;
         votes-fit = good .votes-fit;
@@ -147,6 +146,7 @@ module _ (m : Model) (good : WellFormed m) where
       checkpoint-elim m Kept name parent (all-of stays checkpointRows) λ p.
       let c = newCheckpoint m name parent in
       record {
+        rule = good .rule;
         members = good .members;
         tree = tree-grows (m .checkpoints) c (good .tree) (leb-false checkpointLimit (length (m .checkpoints)) (p .fits))
             (name-held m parent (not-false (nameHeld m parent) (p .held))) refl (name-not-held m name (p .fresh));
@@ -161,11 +161,25 @@ module _ (m : Model) (good : WellFormed m) where
         distinct = good .distinct;
       }
 
+  quorum-kept : (k : Quota) → Kept (decideQuorum m k)
+  unfolding single appendAll append quotaOf
+  quorum-kept k =
+      quorum-elim m Kept k (all-of stays quorumRows) λ p.
+      record {
+        rule = quorum-permitted m k (p .right);
+        members = good .members;
+        tree = good .tree;
+        votes-fit = good .votes-fit;
+        votes = good .votes;
+        distinct = good .distinct;
+      }
+
   -- a vote whose rows are passed, and which there is room for
   vote-added : (v : Vote) → GoodVote (m .members) (m .checkpoints) v → voteHeld (m .votes) v ≡ false → length (m .votes) < voteLimit → Kept (answer (addVote v))
   unfolding single appendAll append voteAt voteHeld
   vote-added v vote fresh fits =
       record {
+        rule = good .rule;
         members = good .members;
         tree = good .tree;
         votes-fit = omega (arith, grown-length noVote (m .votes) v);
@@ -218,6 +232,7 @@ module _ (m : Model) (good : WellFormed m) where
         checkpoint = λ _. checkpoint-kept m good _ _;
         vote = λ _. vote-kept m good _ _ _ _ _;
         bundle = λ _. bundle-elim m WholeKept _ _ _ _ _ (all-of whole-stays bundleRows) (λ _. each-kept m good _ _ _ _ _);
+        quorum = λ _. quorum-kept m good _;
       })
 
 -- ---- every run
@@ -226,6 +241,7 @@ pub start-good : (name : List ℕ) → WellFormed (start name)
 unfolding start checkpointAt
 start-good name =
     record {
+      rule = standard-permitted;
       members =
           record { fit = omega arith; id = λ i h. absurd (omega arith); bond-low = λ i h. absurd (omega arith); bond-high = λ i h. absurd (omega arith); distinct = λ i j h l. absurd (omega arith) };
       tree =

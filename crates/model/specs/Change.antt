@@ -1,19 +1,24 @@
 -- What an event comes to: what is told of it, and the changes that it makes, in order.
 use mathlib.Core.List.{List, [], _∷_, _++_, map, flatMap}
 use Rattle.model.specs.Answer.{Answer, refused, answer}
-use Rattle.model.specs.Model.{Model, Member, Checkpoint, Vote, withMembers, withCheckpoints, withVotes}
+use Rattle.model.specs.Model.{Model, Member, Checkpoint, Vote, withRule, withMembers, withCheckpoints}
+use Rattle.model.specs.Model.{withVotes}
+use Rattle.model.specs.Rule.{given}
+use Rattle.model.specs.declared.Quota.{Quota}
 
 -- one change of what is held
 pub data Change : Type 0 where
   addMember : Member → Change
   addCheckpoint : Checkpoint → Change
   addVote : Vote → Change
+  giveQuota : Quota → Change
 
--- "a member goes to the end of its list; so does a checkpoint ..; so does a vote"
+-- "a member goes to the end of its list; so does a checkpoint ..; so does a vote"; a quota that is given is the rule
 unfoldable pub append : Model → Change → Model
 append m (addMember x) = withMembers m (m .members ++ x ∷ [])
 append m (addCheckpoint c) = withCheckpoints m (m .checkpoints ++ c ∷ [])
 append m (addVote v) = withVotes m (m .votes ++ v ∷ [])
+append m (giveQuota k) = withRule m (given k)
 
 unfoldable pub appendAll : Model → List Change → Model
 appendAll m [] = m
@@ -30,7 +35,8 @@ pub record Decision : Type 0 where
   pub told : Answer Told
   pub changes : List Change
 
--- by the rows of one record, which add one thing: "The first that applies is the refusal, and the lists stay."
+-- by the rows of one record, which change one thing: "The first that applies is the refusal, and the lists stay", as
+-- does the rule
 unfoldable pub single : Answer Change → Decision
 single (refused n) = record { told = refused n; changes = [] }
 single (answer c) = record { told = answer taken; changes = c ∷ [] }

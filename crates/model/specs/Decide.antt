@@ -1,7 +1,7 @@
 -- What is decided on the bytes from an offset on: rows 4 and 5, then those of the record's kind, in rising number; a
--- bundle's own, 61 and 62, come before those of its votes. Rows 1 to 3, and what makes a kind unknown or a record cut
--- (4 and 5), are in Log.antt; row 40's condition in WellFormed.antt, 41 in Support.antt and Finality.antt, 50 to 57 in
--- Checker.antt, 60 in Buffer.antt.
+-- bundle's own, 61 and 62, come before those of its votes; 63 and 64 are a quorum's. Rows 1 to 3, and what makes a kind
+-- unknown or a record cut (4 and 5), are in Log.antt; row 40's condition in WellFormed.antt, 41 in Support.antt and
+-- Finality.antt, 50 to 57 in Checker.antt, 60 in Buffer.antt.
 use Prim.Native.Nat.{ℕ, _+_}
 use mathlib.Core.List.{List, [], _∷_, map}
 use mathlib.Core.Bool.{Bool, _&&_, _||_, not}
@@ -9,14 +9,16 @@ use lib.ListN.{length}
 use lib.Dec.{eqb, ltb, leb}
 use Rattle.model.specs.Answer.{Answer, refused, answer, row, andThen}
 use Rattle.model.specs.Bits.{setPlaces}
-use Rattle.model.specs.Change.{Change, addMember, addCheckpoint, addVote, Decision, single, decided, whole}
-use Rattle.model.specs.Change.{nothingRead}
+use Rattle.model.specs.Change.{Change, addMember, addCheckpoint, addVote, giveQuota, Decision, single}
+use Rattle.model.specs.Change.{decided, whole, nothingRead}
 use Rattle.model.specs.Limits.{memberLimit, checkpointLimit, voteLimit, bondLimit}
 use Rattle.model.specs.Lists.{any}
 use Rattle.model.specs.Log.{Record, noRecord, unknownKind, cutRecord, memberRecord, checkpointRecord, voteRecord}
-use Rattle.model.specs.Log.{bundleRecord, decode}
+use Rattle.model.specs.Log.{bundleRecord, quorumRecord, decode}
 use Rattle.model.specs.Model.{Model, Member, Checkpoint, Vote, Link, link, memberAt, heightOf, placeOf, idHeld}
 use Rattle.model.specs.Model.{nameHeld, voteFor, voteHeld}
+use Rattle.model.specs.Rule.{given?, permitted?}
+use Rattle.model.specs.declared.Quota.{Quota}
 use Rattle.model.specs.Tree.{ancestor?}
 
 -- row 10: after an accepted vote, or an accepted checkpoint other than the root
@@ -115,6 +117,17 @@ decideBundle m bits source target sourceHeight targetHeight =
     (row 62 (noBitSet bits)
     (answer (decideEach m (bundleIds m bits) source target sourceHeight targetHeight)))
 
+-- row 64: "p above q, q not below 2p, q of 0 or above 1,000, or a quorum already given"
+unfoldable pub badQuorum : Model → Quota → Bool
+badQuorum m k = not (permitted? k) || given? (m .rule)
+
+-- rows 63, "a quorum where a member would meet 10", and 64
+unfoldable pub decideQuorum : Model → Quota → Answer Change
+decideQuorum m k =
+    row 63 (membersFixed m)
+    (row 64 (badQuorum m k)
+    (answer (giveQuota k)))
+
 unfoldable pub decideRecord : Model → Record → Decision
 decideRecord m noRecord = nothingRead
 decideRecord m unknownKind = single (refused 4)
@@ -125,6 +138,7 @@ decideRecord m (voteRecord id source target sourceHeight targetHeight) =
     single (decideVote m id source target sourceHeight targetHeight)
 decideRecord m (bundleRecord bits source target sourceHeight targetHeight) =
     whole (decideBundle m bits source target sourceHeight targetHeight)
+decideRecord m (quorumRecord p q) = single (decideQuorum m (record { p = p; q = q }))
 
 unfoldable pub decide : Model → List ℕ → Decision
 decide m s = decideRecord m (decode s)

@@ -1,4 +1,5 @@
--- The log: its header and its four kinds of records. Document 01, "The log"; change request K3 for the bundle.
+-- The log: its header and its five kinds of records. Document 01, "The log"; change request K3 for the bundle,
+-- K5 for the quorum.
 use Prim.Native.Nat.{ℕ}
 use mathlib.Core.List.{List, [], _∷_}
 use mathlib.Core.Bool.{cond, not}
@@ -25,12 +26,14 @@ pub data Record : Type 0 where
   checkpointRecord : (name parent : List ℕ) → Record
   voteRecord : (id : ℕ) (source target : List ℕ) (sourceHeight targetHeight : ℕ) → Record
   bundleRecord : (bits source target : List ℕ) (sourceHeight targetHeight : ℕ) → Record
+  quorumRecord : (p q : ℕ) → Record
 
 -- the kinds of records; a first byte that begins no record is of the other kind
 pub data Kind : Type 0 where
   memberKind : Kind
   checkpointKind : Kind
   voteKind : Kind
+  quorumKind : Kind
   bundleKind : Kind
   otherKind : Kind
 
@@ -39,13 +42,15 @@ kindOf b =
     cond (eqb b 1) memberKind
     (cond (eqb b 2) checkpointKind
     (cond (eqb b 3) voteKind
-    (cond (eqb b 5) bundleKind otherKind)))
+    (cond (eqb b 4) quorumKind
+    (cond (eqb b 5) bundleKind otherKind))))
 
 -- a record's bytes in all; 0 for a kind that is unknown
 unfoldable pub sizeOf : Kind → ℕ
 sizeOf memberKind = 11
 sizeOf checkpointKind = 65
 sizeOf voteKind = 75
+sizeOf quorumKind = 5
 sizeOf bundleKind = 89
 sizeOf otherKind = 0
 
@@ -54,6 +59,8 @@ unfoldable pub decodeAs : Kind → List ℕ → Record
 decodeAs memberKind s = memberRecord (field 1 2 s) (field 3 8 s)
 decodeAs checkpointKind s = checkpointRecord (part 1 32 s) (part 33 32 s)
 decodeAs voteKind s = voteRecord (field 1 2 s) (part 3 32 s) (part 35 32 s) (field 67 4 s) (field 71 4 s)
+-- "p and q of 16 bits each"
+decodeAs quorumKind s = quorumRecord (field 1 2 s) (field 3 2 s)
 -- "16 bytes of member bits, then source, target and two heights as in a vote"
 decodeAs bundleKind s =
     bundleRecord (part 1 16 s) (part 17 32 s) (part 49 32 s) (field 81 4 s) (field 85 4 s)

@@ -1,10 +1,13 @@
--- The reference model, document 01's book: three lists, of members, checkpoints and votes, each in the order of acceptance.
+-- The reference model, document 01's book: three lists, of members, checkpoints and votes, each in the order of
+-- acceptance; and, from change request K5 on, the rule for a quorum.
 use Prim.Native.Nat.{ℕ}
 use mathlib.Core.List.{List, [], _∷_}
 use mathlib.Core.Bool.{Bool, _&&_}
 use lib.ListN.{length, getD}
 use lib.Dec.{eqb, ltb}
 use Rattle.model.specs.Lists.{firstIndex, sameBytes, any}
+use Rattle.model.specs.Rule.{Rule, standard, quotaOf}
+use Rattle.model.specs.declared.Quota.{Quota}
 
 pub record Member : Type 0 where
   pub id : ℕ
@@ -31,24 +34,38 @@ abbrev pub link : ℕ → ℕ → Link
 link s t = record { source = s; target = t }
 
 pub record Model : Type 0 where
+  pub rule : Rule
   pub members : List Member
   pub checkpoints : List Checkpoint
   pub votes : List Vote
 
 -- "It starts with the root alone."
 unfoldable pub start : List ℕ → Model
-start name = record { members = []; checkpoints = record { name = name; parent = 0; height = 0 } ∷ []; votes = [] }
+start name =
+    record {
+      rule = standard;
+      members = [];
+      checkpoints = record { name = name; parent = 0; height = 0 } ∷ [];
+      votes = [];
+    }
 
--- the model with other members, other checkpoints, other votes
+-- the quota by the rule that is held
+abbrev pub quota : Model → Quota
+quota m = quotaOf (m .rule)
+
+-- the model with another rule, other members, other checkpoints, other votes
+
+abbrev pub withRule : Model → Rule → Model
+withRule m r = record { rule = r; members = m .members; checkpoints = m .checkpoints; votes = m .votes }
 
 abbrev pub withMembers : Model → List Member → Model
-withMembers m ms = record { members = ms; checkpoints = m .checkpoints; votes = m .votes }
+withMembers m ms = record { rule = m .rule; members = ms; checkpoints = m .checkpoints; votes = m .votes }
 
 abbrev pub withCheckpoints : Model → List Checkpoint → Model
-withCheckpoints m cs = record { members = m .members; checkpoints = cs; votes = m .votes }
+withCheckpoints m cs = record { rule = m .rule; members = m .members; checkpoints = cs; votes = m .votes }
 
 abbrev pub withVotes : Model → List Vote → Model
-withVotes m vs = record { members = m .members; checkpoints = m .checkpoints; votes = vs }
+withVotes m vs = record { rule = m .rule; members = m .members; checkpoints = m .checkpoints; votes = vs }
 
 -- what stands past the end of a list
 abbrev pub noMember : Member

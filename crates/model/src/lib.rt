@@ -8,6 +8,13 @@ pub struct Place(pub u16);
 #[repr(C)]
 pub struct Height(pub u32);
 
+// What a quorum needs: p of q parts of all bonds.
+#[repr(C)]
+pub struct Quota {
+    pub p: u16,
+    pub q: u16,
+}
+
 // The standing of a checkpoint. A final checkpoint is justified too.
 pub enum Status {
     Plain,
@@ -15,7 +22,8 @@ pub enum Status {
     Final,
 }
 
-// How much is held at most, the largest bond, and the greatest height that the root may have.
+// How much is held at most, the largest bond, the most parts of a quota, and the greatest height that the root may
+// have.
 pub const MAX_MEMBERS: usize = 128;
 
 pub const MAX_CHECKPOINTS: usize = 512;
@@ -26,6 +34,8 @@ pub const MAX_VOTES: usize = 4096;
 pub const NAME_BYTES: usize = 32 * MAX_CHECKPOINTS;
 
 pub const MAX_BOND: u64 = 1_000_000_000_000;
+
+pub const MAX_PARTS: u16 = 1_000;
 
 pub const MAX_ROOT_HEIGHT: u32 = 0;
 
@@ -64,6 +74,8 @@ pub enum Refusal {
     BufferTooShort,
     BitWithoutMember,
     NoBitSet,
+    QuorumFixed,
+    BadQuorum,
 }
 
 // What writing a text into a lent buffer comes to: the text's length, or why nothing was written.

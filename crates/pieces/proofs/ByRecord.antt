@@ -12,7 +12,8 @@ use Rattle.model.specs.Answer.{refused}
 use Rattle.model.specs.Bytes.{AreBytes}
 use Rattle.model.specs.Change.{Decision, single}
 use Rattle.model.specs.Decide.{decideRecord, decide}
-use Rattle.model.specs.Log.{Kind, memberKind, checkpointKind, voteKind, bundleKind, otherKind, kindOf, sizeOf, decodeAs}
+use Rattle.model.specs.Log.{Kind, memberKind, checkpointKind, voteKind, quorumKind, bundleKind, otherKind, kindOf}
+use Rattle.model.specs.Log.{sizeOf, decodeAs}
 use Rattle.model.specs.Log.{recordSize, recordLength}
 use Rattle.model.specs.Model.{Model}
 use Rattle.model.specs.Report.{outcomeLine}
@@ -80,6 +81,7 @@ halts (b ∷ r) e = go (ltb (length (b ∷ r)) (recordSize b)) refl (kindOf b) r
     go false c memberKind i e = clash e refl
     go false c checkpointKind i e = clash e refl
     go false c voteKind i e = clash e refl
+    go false c quorumKind i e = clash e refl
     go false c bundleKind i e = clash e refl
     go false c otherKind i e = unknown i
 

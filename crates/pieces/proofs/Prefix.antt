@@ -10,8 +10,9 @@ use lib.ListN.{length, take, drop, length-append, length-drop}
 use lib.Seq.{take-append-le, drop-append-le}
 use Rattle.model.specs.Bytes.{part, field, beOf}
 use Rattle.model.specs.Decide.{decideRecord, decide}
-use Rattle.model.specs.Log.{memberRecord, checkpointRecord, voteRecord, bundleRecord, header, Kind, memberKind, checkpointKind}
-use Rattle.model.specs.Log.{voteKind, bundleKind, otherKind, kindOf, sizeOf, decodeAs, recordSize, recordLength}
+use Rattle.model.specs.Log.{memberRecord, checkpointRecord, voteRecord, bundleRecord, quorumRecord, header, Kind}
+use Rattle.model.specs.Log.{memberKind, checkpointKind, voteKind, quorumKind, bundleKind, otherKind, kindOf, sizeOf}
+use Rattle.model.specs.Log.{decodeAs, recordSize, recordLength}
 use Rattle.model.specs.Model.{Model}
 use Rattle.model.proofs.Lists.{clash}
 use Rattle.model.proofs.Log.{begins-whole}
@@ -46,6 +47,8 @@ decoded-front voteKind s t h =
     let low = field-front 67 4 s t (omega arith) in
     let high = field-front 71 4 s t (omega arith) in
     λ i. voteRecord (id i) (source i) (target i) (low i) (high i)
+decoded-front quorumKind s t h =
+    ap₂ quorumRecord (field-front 1 2 s t (omega arith)) (field-front 3 2 s t (omega arith))
 decoded-front bundleKind s t h =
     let bits = part-front 1 16 s t (omega arith) in
     let source = part-front 17 32 s t (omega arith) in

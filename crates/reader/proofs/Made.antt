@@ -46,6 +46,7 @@ stays w m s =
       checkpoint = λ _ e. absurd (omega arith);
       vote = λ _ e. absurd (omega arith);
       bundle = λ _ e. absurd (omega arith);
+      quorum = λ _ e. absurd (omega arith);
     })
 
 module _ (log : List ℕ) where

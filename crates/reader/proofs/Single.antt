@@ -37,6 +37,7 @@ no-votes m s =
       checkpoint = λ _ e. absurd (omega arith);
       vote = λ _ e. absurd (omega arith);
       bundle = λ _ e. absurd (omega arith);
+      quorum = λ _ e. absurd (omega arith);
     })
 
 module _ (room : ℕ) (w : Witness) (log : List ℕ) (at : ℕ) {before after : List ℕ} {r : Batch} (free : 128 ≤ room) (is : IsBatch (readMany 1 room w log at) before r after) where

@@ -16,7 +16,9 @@ use Rattle.model.specs.Log.{Record}
 use Rattle.model.specs.Model.{Model, memberAt}
 use Rattle.model.proofs.Lists.{or-left, or-right, clash, not-so, all-map}
 use Rattle.model.proofs.Log.{decode-elim}
-use Rattle.model.proofs.Rows.{memberRows, checkpointRows, voteRows, bundleRows, member-elim, checkpoint-elim, vote-elim, bundle-elim}
+use Rattle.model.proofs.Rows.{memberRows, checkpointRows, voteRows, bundleRows, quorumRows, member-elim}
+use Rattle.model.proofs.Rows.{checkpoint-elim}
+use Rattle.model.proofs.Rows.{vote-elim, bundle-elim, quorum-elim}
 use Rattle.state.specs.Reading.{rowOf}
 use Rattle.bits.proofs.SetPlaces.{few-set}
 use Rattle.reader.specs.Entries.{rowsOf}
@@ -125,4 +127,5 @@ module _ (m : Model) where
         checkpoint = λ _. checkpoint-elim m Single _ _ (all-map by-row (rows-within checkpointRows refl)) (λ _. is-taken _);
         vote = λ _. vote-elim m Single _ _ _ _ _ (all-map by-row (rows-within voteRows refl)) (λ _ _. is-taken _);
         bundle = λ _. bundle-elim m Whole _ _ _ _ _ (all-map refused-whole (rows-within bundleRows refl)) (λ p. bundle-rowed _ _ _ _ _ (p .some));
+        quorum = λ _. quorum-elim m Single _ (all-map by-row (rows-within quorumRows refl)) (λ _. is-taken _);
       })

@@ -3,6 +3,7 @@ use model::MAX_MEMBERS;
 use rules::Decision;
 use rules::votes::Ballot;
 use state::Counts;
+use state::Numbers;
 use state::Outcome;
 use state::Witness;
 ghost use mathlib.Core.Path.{_≡_};
@@ -101,8 +102,10 @@ pub fn read_many(w: Witness, log: &[u8], at: usize, limit: u64, rows: &mut [u8])
         };
         let parents = held.parents;
         let heights = held.heights;
+        let numbers = held.numbers;
         let d = rules::decide_record(
             counts,
+            numbers,
             &held.ids,
             &held.names,
             parents,
@@ -177,6 +180,10 @@ pub fn read_many(w: Witness, log: &[u8], at: usize, limit: u64, rows: &mut [u8])
                     }
                     p += 1;
                 }
+            }
+            Decision::Quorum(k) => {
+                let given = Numbers { p: k.p, q: k.q };
+                held.numbers = given;
             }
             Decision::Nothing => {}
             Decision::Refuse(_) => {}

@@ -39,5 +39,7 @@ pub fn refusal_number(r: Refusal) -> u8
         Refusal::BufferTooShort => 60,
         Refusal::BitWithoutMember => 61,
         Refusal::NoBitSet => 62,
+        Refusal::QuorumFixed => 63,
+        Refusal::BadQuorum => 64,
     }
 }

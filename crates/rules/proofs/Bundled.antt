@@ -21,7 +21,7 @@ use Rattle.model.proofs.Lists.{found-any, any-first, all-map}
 use Rattle.state.specs.Reading.{manyVotes, brief}
 use Rattle.rules.specs.Decision.{castVote, castEach, decisionOf, BitsFit}
 use Rattle.rules.specs.declared.Decision.{Decision as Decides}
-use Rattle.rules.specs.declared.Decision.the-variants.{Nothing, Refuse, Member, Checkpoint, Vote, Bundle}
+use Rattle.rules.specs.declared.Decision.the-variants.{Nothing, Refuse, Member, Checkpoint, Vote, Bundle, Quorum}
 
 -- two models say the same of links and of ids
 record Alike (m n : Model) : Type 0 where
@@ -137,6 +137,7 @@ single-fits m n s a (Member id bond) e = tt
 single-fits m n s a (Checkpoint p h) e = tt
 single-fits m n s a (Vote id p q) e = tt
 single-fits m n s a (Bundle k l) e = absurd (not-together _ a e)
+single-fits m n s a (Quorum k) e = tt
 
 -- the member at a place is held
 at-place : (m : Model) (p : ℕ) → p < length (m .members) → idHeld m (memberAt (m .members) p .id) ≡ true

@@ -9,14 +9,17 @@ use lib.ListN.{length, drop}
 use lib.Dec.{eqb, ltb, leb}
 use Rattle.model.specs.Answer.{answer, row}
 use Rattle.model.specs.Bytes.{field, part}
-use Rattle.model.specs.Change.{addMember, addCheckpoint}
+use Rattle.model.specs.Change.{addMember, addCheckpoint, giveQuota}
 use Rattle.model.specs.Decide.{membersFixed, bondOutOfRange, decideMember, decideCheckpoint, heightsAgree, linkBetween, linkOf}
+use Rattle.model.specs.Decide.{badQuorum, decideQuorum}
 use Rattle.model.specs.Lists.{firstIndex, sameBytes}
 use Rattle.model.specs.Limits.{bondLimit, memberLimit, checkpointLimit}
 use Rattle.model.specs.Model.{Model, Member, Link, link, heightOf, placeOf, idHeld, nameHeld}
 use Rattle.model.specs.Tree.{ancestor?}
 use Rattle.model.specs.declared.Height.{Height}
+use Rattle.model.specs.Rule.{given?, permitted?}
 use Rattle.model.specs.declared.Place.{Place}
+use Rattle.model.specs.declared.Quota.{Quota}
 use Rattle.model.proofs.Lists.{or-left, or-right}
 use Rattle.tables.specs.Places.{heightAt}
 use Rattle.names.specs.Rows.{rows}
@@ -55,6 +58,19 @@ bond-above b h = or-right (eqb b 0) (ltb bondLimit b) (lt-ltb bondLimit b h)
 pub bond-fits : (b : ℕ) → (b ≡ 0 → ⊥) → b ≤ bondLimit → bondOutOfRange b ≡ false
 unfolding bondOutOfRange
 bond-fits b n h = ap₂ _||_ (ne-eqb b 0 n) (le-ltb bondLimit b h)
+
+-- the quota that the code read is the record's
+pub quota-read : (at : ℕ) (log : List ℕ) {p q : ℕ} → p ≡ field (at + 1) 2 log → q ≡ field (at + 3) 2 log
+    → _≡_ {A = Quota} (record { p = p; q = q }) (record { p = field 1 2 (drop at log); q = field 3 2 (drop at log) })
+quota-read at log e f = λ i. record { p = (e ∙ sym (field-at at 1 2 log)) i; q = (f ∙ sym (field-at at 3 2 log)) i }
+
+pub quorum-rows : (m : Model) (k : Quota) {fixed permitted given : Bool}
+    → membersFixed m ≡ fixed
+    → permitted? k ≡ permitted
+    → given? (m .rule) ≡ given
+    → decideQuorum m k ≡ row 63 fixed (row 64 (not permitted || given) (answer (giveQuota k)))
+unfolding decideQuorum badQuorum
+quorum-rows m k e63 e f = rw (e63, e, f)
 
 pub checkpoint-rows : (m : Model) (name parent : List ℕ) {b20 b21 b22 : Bool}
     → nameHeld m name ≡ b20

@@ -8,8 +8,8 @@ use lib.ListN.{length}
 use Rattle.model.specs.Answer.{Answer, refused, answer, andThen}
 use Rattle.model.specs.Bits.{setPlaces}
 use Rattle.model.specs.Bytes.{part}
-use Rattle.model.specs.Change.{Decision as Decided, addMember, addCheckpoint, addVote, single, decided, together}
-use Rattle.model.specs.Change.{nothingRead}
+use Rattle.model.specs.Change.{Decision as Decided, addMember, addCheckpoint, addVote, giveQuota, single, decided}
+use Rattle.model.specs.Change.{together, nothingRead}
 use Rattle.model.specs.Decide.{cast, room, bundleIds}
 use Rattle.model.specs.Limits.{memberLimit}
 use Rattle.model.specs.Lists.{any}
@@ -17,7 +17,7 @@ use Rattle.model.specs.Model.{Model, Link, voteFor}
 use Rattle.model.specs.Refusals.{refusalNumber}
 use Rattle.rules.specs.Ballot.{linkAnswerOf}
 use Rattle.rules.specs.declared.Decision.{Decision}
-use Rattle.rules.specs.declared.Decision.the-variants.{Nothing, Refuse, Member, Checkpoint, Vote, Bundle}
+use Rattle.rules.specs.declared.Decision.the-variants.{Nothing, Refuse, Member, Checkpoint, Vote, Bundle, Quorum}
 
 -- rows 35 and 36, on a held member's vote for a link that rows 31 to 34 passed or refused
 unfoldable pub castVote : Model → Answer Link → ℕ → Decided
@@ -38,6 +38,7 @@ decisionOf m s (Checkpoint p h) =
     single (answer (addCheckpoint (record { name = part 1 32 s; parent = p .0; height = h .0 })))
 decisionOf m s (Vote id source target) = single (answer (addVote (voteFor id (source .0) (target .0))))
 decisionOf m s (Bundle n l) = together (castEach m (linkAnswerOf l) (bundleIds m (part 1 16 s)))
+decisionOf m s (Quorum k) = single (answer (giveQuota k))
 
 -- of a bundle at the start of s that is not refused whole: so many bits are set, each of one of the members
 pub record Bits (members n : ℕ) (s : List ℕ) : Type 0 where
@@ -54,3 +55,4 @@ BitsFit members s (Member id bond) = Unit {0}
 BitsFit members s (Checkpoint p h) = Unit {0}
 BitsFit members s (Vote id source target) = Unit {0}
 BitsFit members s (Bundle n l) = Bits members n s
+BitsFit members s (Quorum k) = Unit {0}

@@ -3,8 +3,10 @@ use links::LinkAnswer;
 use model::Height;
 use model::MAX_CHECKPOINTS;
 use model::Place;
+use model::Quota;
 use model::Refusal;
 use state::Counts;
+use state::Numbers;
 use state::Outcome;
 ghost use mathlib.Core.Path.{_≡_};
 ghost use Prim.Native.Nat.{ℕ};
@@ -13,6 +15,7 @@ ghost use lib.ListN.{drop};
 ghost use Rattle.model.specs.Decide.{decide};
 ghost use Rattle.model.specs.Model.{Model};
 ghost use Rattle.state.specs.Reading.{outcomeOf, brief};
+ghost use Rattle.state.specs.State.{ruleOf, quotaIn};
 ghost use Rattle.state.specs.Tables.{Held};
 ghost use Rattle.rules.specs.Decision.{decisionOf, BitsFit};
 ghost use Rattle.rules.specs.Fit.{Fit};
@@ -21,11 +24,12 @@ pub mod bundles;
 pub mod checkpoints;
 pub mod links;
 pub mod members;
+pub mod quorums;
 pub mod votes;
 
 // What is decided on a record: nothing is there; a row refuses it; or what is to be held: a member's id and bond; the
-// place of a checkpoint's parent, and its own height; a vote's member, source and target. Of a bundle that is not
-// refused whole: how many votes it has, and what rows 31 to 34 make of their link.
+// place of a checkpoint's parent, and its own height; a vote's member, source and target; a quorum's quota. Of a
+// bundle that is not refused whole: how many votes it has, and what rows 31 to 34 make of their link.
 pub enum Decision {
     Nothing,
     Refuse(Refusal),
@@ -33,6 +37,7 @@ pub enum Decision {
     Checkpoint(Place, Height),
     Vote(u16, Place, Place),
     Bundle(usize, LinkAnswer),
+    Quorum(Quota),
 }
 
 // What the record comes to by the decision.
@@ -48,6 +53,7 @@ pub fn outcome_of(d: Decision) -> Outcome
         Decision::Checkpoint(_, _) => Outcome::Taken,
         Decision::Vote(_, _, _) => Outcome::Taken,
         Decision::Bundle(votes, _) => Outcome::Bundled(votes),
+        Decision::Quorum(_) => Outcome::Taken,
     }
 }
 
@@ -56,6 +62,7 @@ pub fn outcome_of(d: Decision) -> Outcome
 // in chains, so that one is looked for among few.
 pub fn decide_record<'a>(
     counts: Counts,
+    numbers: Numbers,
     ids: &'a [u16],
     names: &'a [u8],
     parents: [Place; MAX_CHECKPOINTS],
@@ -69,6 +76,7 @@ pub fn decide_record<'a>(
     requires { ⌜ Fit counts (now ids) (now names) parents heights (now keys) (now heads) (now nexts) ⌝ }
     ensures { λ r. ⌜
         ((m : Model)
+        → m .rule ≡ ruleOf (quotaIn numbers)
         → Held m counts (now (ids .entry)) (now (names .entry)) parents heights (now (keys .entry))
         → let s = drop at (now (log .entry)) in
         (decisionOf m s r ≡ decide m s) × BitsFit (counts .members) s r)
@@ -81,11 +89,9 @@ pub fn decide_record<'a>(
     if log.len() - at < wire::records::record_size(kind) {
         return Decision::Refuse(Refusal::CutRecord);
     }
+    let fixed = (0 < counts.votes) | (1 < counts.checkpoints);
     match kind {
-        1 => {
-            let fixed = (0 < counts.votes) | (1 < counts.checkpoints);
-            members::decide_member(ids, counts.members, fixed, log, at)
-        }
+        1 => members::decide_member(ids, counts.members, fixed, log, at),
         2 => checkpoints::decide_checkpoint(names, heights, counts.checkpoints, log, at),
         3 => votes::decide_vote(
             counts,
@@ -99,7 +105,8 @@ pub fn decide_record<'a>(
             log,
             at,
         ),
+        4 => quorums::decide_quorum(numbers, fixed, log, at),
         5 => bundles::decide_bundle(counts, names, parents, heights, log, at),
-        0 | 4 | 6..=255 => Decision::Refuse(Refusal::UnknownKind),
+        0 | 6..=255 => Decision::Refuse(Refusal::UnknownKind),
     }
 }

@@ -1,6 +1,7 @@
 -- Accountable safety, source document 002, theorem 1, with bonds as weights: if two final checkpoints conflict, the
--- members whose votes break a slashing condition hold at least a third of all bonds; our list names them and passes.
-use Prim.Native.Nat.{ℕ, _+_, _*_, _<_, _≤_}
+-- members whose votes break a slashing condition hold at least 2p - q of q parts of all bonds, where a quorum is p of q
+-- parts; our list names them and passes.
+use Prim.Native.Nat.{ℕ, _+_, _*_, _-_, _<_, _≤_}
 use native.Mathlib.Nat.{mul-le-mul-left, le-trans}
 use native.Mathlib.Omega.{arith}
 use mathlib.Core.Path.{_≡_, refl, sym, ap, subst₂}
@@ -10,7 +11,7 @@ use lib.ListN.{length}
 use Rattle.model.specs.Evidence.{violator?}
 use Rattle.model.specs.Exact.{Violation}
 use Rattle.model.specs.Finality.{Sealed, Final, genesis, sealed, ConflictingFinals}
-use Rattle.model.specs.Model.{Model, Member, Vote, heightOf, start, voteFor}
+use Rattle.model.specs.Model.{Model, Member, Vote, heightOf, start, quota, voteFor}
 use Rattle.model.specs.Run.{after}
 use Rattle.model.specs.Slashing.{Breaks, Condition, other-source, other-target, double, surrounds}
 use Rattle.model.specs.Support.{Link, sum, supports, total}
@@ -26,7 +27,7 @@ use Rattle.model.proofs.Support.{Held, supports-held, link-carries, link-climbs
 use Rattle.model.proofs.Tree.{child-higher, conflict-swap, root-in-no-conflict}
 use Rattle.safety.specs.Share.{AccountableSafety, NoInnocentNamed}
 use Rattle.safety.proofs.Crossing.{finals-cross}
-use Rattle.safety.proofs.Weight.{carriers-share, sum-mono}
+use Rattle.safety.proofs.Weight.{carriers-share, third, sum-mono}
 
 -- two links s1 → t1 and s2 → t2: whoever votes for both breaks a slashing condition
 record CrossingLinks (m : Model) : Type 0 where
@@ -109,11 +110,12 @@ supports-both m x c one other = pair (supports-held m (c .s1) (c .t1) x one) (su
         (ap (λ (v : Vote). v .voter) (p .is))
         (subst₂ (Breaks m) (sym (p .is)) (sym (q .is)) (c .breaks (x .id)))
 
-pub share-of-violators : (m : Model) → WellFormed m → ConflictingFinals m → total (m .members) ≤ 3 * sum (violator? m) (m .members)
+pub share-of-violators : (m : Model) → WellFormed m → ConflictingFinals m
+    → (2 * quota m .p - quota m .q) * total (m .members) ≤ quota m .q * sum (violator? m) (m .members)
 share-of-violators m good finals =
     le-trans
     (carriers-share m (c .t1) (c .t2) one other (link-carries m (c .s1) (c .t1) (c .one)) (link-carries m (c .s2) (c .t2) (c .other)))
-    (mul-le-mul-left 3 (sum-mono in-both (m .members)))
+    (mul-le-mul-left (quota m .q) (sum-mono in-both (m .members)))
   where
     c : CrossingLinks m
     c = crossing-links m good finals
@@ -131,7 +133,15 @@ pub accountable-safety : AccountableSafety
 accountable-safety name es bytes finals =
     let m = after (start name) es in
     let good = reached-good name es bytes in
-    record { named = sum (violator? m) (m .members); passes = our-list-passes m good; share = share-of-violators m good finals }
+    let named = sum (violator? m) (m .members) in
+    let share = share-of-violators m good finals in
+    record {
+      named = named;
+      passes = our-list-passes m good;
+      permitted = good .rule;
+      share = share;
+      third = λ most. third (quota m .p) (quota m .q) (total (m .members)) named (good .rule .some) most share;
+    }
 
 pub no-innocent-named : NoInnocentNamed
 no-innocent-named m l s bytes passes =

@@ -1,12 +1,14 @@
 -- The weight half, with no tree: two sets of members that each hold a large share of the bonds overlap in a share.
-use Prim.Native.Nat.{ℕ, _+_, _*_, _-_, _≤_, zero-le}
-use native.Mathlib.Nat.{mul-le-mul-left, mul-add, mul-assoc, mul-comm, mul-sub}
+use Prim.Native.Nat.{ℕ, _+_, _*_, _-_, _<_, _≤_, zero-le}
+use native.Mathlib.Nat.{mul-le-mul-left, mul-le-mul-right, mul-add, mul-assoc, mul-comm, mul-sub}
 use native.Mathlib.Omega.{arith}
 use mathlib.Core.Path.{_≡_, refl}
+use mathlib.Core.Logic.{⊎-elim}
 use mathlib.Core.List.{List, [], _∷_}
 use mathlib.Core.Bool.{Bool, true, false, cond, _&&_, false≢true}
-use Rattle.model.specs.Model.{Model, Member}
+use Rattle.model.specs.Model.{Model, Member, quota}
 use Rattle.model.specs.Support.{sum, total, carries}
+use Rattle.model.proofs.Lists.{lt-or-ge}
 use Rattle.model.proofs.Support.{carries-parts}
 
 -- only what stands in both sets is counted twice
@@ -38,6 +40,17 @@ shared p q A B ms a b =
       mul-assoc 2 p (total ms),
     )
 
+-- where a quorum is at least 2 of 3 parts, that is at least a third
+pub third : (p q total named : ℕ) → 0 < q → 2 * q ≤ 3 * p → (2 * p - q) * total ≤ q * named → total ≤ 3 * named
+third p q total named some most share = go (2 * p - q) (omega arith) share
+  where
+    go : (d : ℕ) → q ≤ 3 * d → d * total ≤ q * named → total ≤ 3 * named
+    go d h s =
+        ⊎-elim
+        (λ more. absurd (omega (arith, mul-le-mul-left q more, mul-le-mul-right total h)))
+        (λ no-more. no-more)
+        (lt-or-ge (3 * named) total)
+
 -- a larger set holds no less
 pub sum-mono : {A B : Member → Bool} → ((x : Member) → A x ≡ true → B x ≡ true) → (ms : List Member) → sum A ms ≤ sum B ms
 unfolding sum
@@ -50,9 +63,8 @@ sum-mono {A} {B} h (x ∷ xs) = go (sum-mono h xs) (A x) (B x) (h x)
     go ih false true k = omega arith
     go ih false false k = omega arith
 
--- two sets that carry a checkpoint each, by the quorum of 2 of 3: at least a third is in both
-pub carriers-share : (m : Model) (t u : ℕ) (A B : Member → Bool)
-    → carries m t A ≡ true → carries m u B ≡ true → total (m .members) ≤ 3 * sum (λ x. A x && B x) (m .members)
+-- two sets that carry a checkpoint each, by the quota that is held: the members in both hold 2p - q of q parts
+pub carriers-share : (m : Model) (t u : ℕ) (A B : Member → Bool) → carries m t A ≡ true → carries m u B ≡ true
+    → (2 * quota m .p - quota m .q) * total (m .members) ≤ quota m .q * sum (λ x. A x && B x) (m .members)
 carriers-share m t u A B a b =
-    let ms = m .members in
-    omega (arith, shared 2 3 A B ms (carries-parts m t A a .1) (carries-parts m u B b .1))
+    shared (quota m .p) (quota m .q) A B (m .members) (carries-parts m t A a .1) (carries-parts m u B b .1)

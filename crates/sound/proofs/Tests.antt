@@ -1,4 +1,4 @@
--- Row 40's parts of the model are its parts of the arrays that hold it, and the four together are the row.
+-- Row 40's parts of the model are its parts of the arrays and numbers that hold it, and all together are the row.
 use Prim.Native.Nat.{ℕ, _+_, _<_, _≤_}
 use native.Mathlib.Omega.{arith}
 use mathlib.Core.Path.{_≡_, refl, sym, ap, ap₂, _∙_}
@@ -9,7 +9,8 @@ use lib.ListN.{length}
 use lib.Dec.{eqb, ltb, leb}
 use Rattle.model.specs.Limits.{bondLimit, memberLimit, checkpointLimit, voteLimit, rootHeightLimit}
 use Rattle.model.specs.Lists.{allBelow, pairBelow, sameBytes}
-use Rattle.model.specs.Model.{Checkpoint, Vote, heightOf, parentOf, sameVote}
+use Rattle.model.specs.Model.{Checkpoint, Vote, quota, heightOf, parentOf, sameVote}
+use Rattle.model.specs.Rule.{quotaOf, permitted?}
 use Rattle.model.specs.WellFormed.{counts?, members?, tree?, vote?, votes?, wellFormed?}
 use Rattle.model.specs.WellFormed.{bonds?, idTwice?, steps?, nameTwice?, voteTwice?}
 use Rattle.model.proofs.Lists.{and-left, and-right}
@@ -17,7 +18,7 @@ use Rattle.tables.specs.Places.{Falling, placeAt, heightAt, isStep, isSound}
 use Rattle.tables.proofs.Steps.{sound-falls}
 use Rattle.search.proofs.Pointwise.{all-same, pair-same}
 use Rattle.state.specs.Sound.{sound?}
-use Rattle.state.specs.State.{modelOf, voteIn}
+use Rattle.state.specs.State.{ruleOf, quotaIn, modelOf, voteIn}
 use Rattle.state.specs.declared.Witness.{Witness}
 use Rattle.state.proofs.Held.{held-id, members-held, ancestors-held}
 use Rattle.state.proofs.Entries.{count-members, count-checkpoints, count-votes, member-is, checkpoint-is, vote-is}
@@ -63,15 +64,20 @@ few w e =
     }
 
 module _ (w : Witness) where
-  -- the row is its four parts
-  pub parts : {a b c d : Bool}
+  -- the row is its parts
+  pub parts : {k a b c d : Bool}
+      → permitted? (quota (modelOf w)) ≡ k
       → counts? (modelOf w) ≡ a
       → members? (modelOf w .members) ≡ b
       → tree? (modelOf w .checkpoints) ≡ c
       → votes? (modelOf w) ≡ d
-      → (a && b && c && d) ≡ sound? w
+      → (k && a && b && c && d) ≡ sound? w
   unfolding sound? wellFormed?
-  parts e₁ e₂ e₃ e₄ = sym (rw (e₁, e₂, e₃, e₄))
+  parts e₀ e₁ e₂ e₃ e₄ = sym (rw (e₀, e₁, e₂, e₃, e₄))
+
+  pub rule-is : permitted? (quota (modelOf w)) ≡ permitted? (quotaOf (ruleOf (quotaIn (w .numbers))))
+  unfolding modelOf
+  rule-is = refl
 
   pub counts-are : counts? (modelOf w) ≡ countsPass (w .«member_count») (w .«checkpoint_count») (w .«vote_count»)
   unfolding counts?

@@ -1,4 +1,4 @@
--- Row 40's four parts, asked of the arrays of a state and of its counts.
+-- Row 40's parts, asked of the arrays of a state and of its counts; what it asks of the rule is `permitted?`.
 use Prim.Native.Nat.{ℕ, _*_}
 use mathlib.Core.List.{List}
 use mathlib.Core.Bool.{Bool, _&&_, not}

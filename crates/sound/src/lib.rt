@@ -1,4 +1,5 @@
-// Row 40: whether a state that was handed in is one that the rules allow. One function for each part of the row.
+// Row 40: whether a state that was handed in is one that the rules allow. One function for each part of the row; that
+// of the rule for a quorum stands in crate state.
 use model::Height;
 use model::MAX_CHECKPOINTS;
 use model::MAX_MEMBERS;
@@ -6,6 +7,8 @@ use model::MAX_ROOT_HEIGHT;
 use model::MAX_VOTES;
 use model::Place;
 use state::Witness;
+use state::quotas::is_permitted;
+use state::quotas::quota_of;
 ghost use mathlib.Core.Path.{_≡_};
 ghost use Prim.Native.Nat.{_*_, _≤_};
 ghost use lib.ListN.{length};
@@ -96,6 +99,10 @@ fn votes_pass<'a>(
 pub fn is_sound(w: Witness) -> bool
     ensures { λ r. ⌜ (r ≡ sound? w) × Typed w ⌝ }
 {
+    let numbers = w.numbers;
+    if !is_permitted(quota_of(numbers)) {
+        return false;
+    }
     let members = w.member_count;
     let checkpoints = w.checkpoint_count;
     let votes = w.vote_count;

@@ -1,4 +1,4 @@
--- One pass over the places: which are justified, and which are the root or joined by a supermajority link to a direct
+-- One pass over the places: which are justified, and which are the root or joined by a link with a quorum to a direct
 -- child.
 use Prim.Native.Nat.{ℕ, zero, suc, _+_, _<_, _≤_}
 use native.Mathlib.Omega.{arith}
@@ -25,7 +25,7 @@ use Rattle.search.proofs.Filled.{Filled, filled-more}
 use Rattle.search.proofs.Pointwise.{any-same}
 use Rattle.standing.specs.Answers.{IsAnalysis}
 
--- s is justified, and a supermajority link leads from it to t
+-- s is justified, and a link with a quorum leads from it to t
 abbrev leads : Model → ℕ → ℕ → Bool
 leads m t s = justified? m s && link? m s t
 

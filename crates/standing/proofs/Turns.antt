@@ -61,7 +61,7 @@ module _ {w : Witness} {b : Ballots} {justified finalizing : List Bool} {t : ℕ
 
     -- whether the voters of the link from s carry it
     abbrev leads : (ℕ → Voters) → ℕ → Bool
-    leads tally s = carried (w .bonds) (w .«member_count») (b .quota) (tally s)
+    leads tally s = carried (w .bonds) (w .«member_count») (b .bar) (tally s)
 
     -- the voters of the links to t say whether it is justified, and whether a link joins its parent to it
     pub turn-more : (tally : ℕ → Voters) {reached hit : Bool}

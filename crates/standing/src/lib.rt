@@ -1,4 +1,4 @@
-// Which places of a sound state are justified, which are the root or have a supermajority link to a direct child, and
+// Which places of a sound state are justified, which are the root or have a link with a quorum to a direct child, and
 // so the standing of each.
 use model::MAX_CHECKPOINTS;
 use model::Place;
@@ -15,7 +15,7 @@ ghost use Rattle.state.specs.Sound.{Sound};
 ghost use Rattle.state.specs.State.{modelOf};
 ghost use Rattle.standing.specs.Answers.{IsAnalysis, statusIn};
 
-// For each place whether it is justified, and whether that would make it final: it is the root, or a supermajority link
+// For each place whether it is justified, and whether that would make it final: it is the root, or a link with a quorum
 // leads from it to a direct child.
 pub struct Analysis {
     pub justified: [bool; MAX_CHECKPOINTS],
@@ -36,7 +36,7 @@ pub fn statuses(w: Witness) -> Analysis
     let from = b.from;
     let head = b.head;
     let next = b.next;
-    let quota = b.quota;
+    let bar = b.bar;
     let mut justified = [false; MAX_CHECKPOINTS];
     let mut finalizing = [false; MAX_CHECKPOINTS];
     justified[0] = true;
@@ -47,7 +47,7 @@ pub fn statuses(w: Witness) -> Analysis
         let mut hi = [0u64; MAX_CHECKPOINTS];
         votes::gather(&who, &from, &next, head[t], &mut lo, &mut hi);
         let to = t as u16;
-        let reached = links::reaches(&lo, &hi, &justified, Place(to), &w.bonds, members, quota);
+        let reached = links::reaches(&lo, &hi, &justified, Place(to), &w.bonds, members, bar);
         justified[t] = reached;
         let parent = parents[t];
         let p = parent.0 as usize;
@@ -55,7 +55,7 @@ pub fn statuses(w: Witness) -> Analysis
             lo: lo[p],
             hi: hi[p],
         };
-        finalizing[p] = finalizing[p] | voters::carries(v, &w.bonds, members, quota);
+        finalizing[p] = finalizing[p] | voters::carries(v, &w.bonds, members, bar);
         t += 1;
     }
     Analysis {

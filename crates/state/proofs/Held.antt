@@ -20,7 +20,7 @@ use Rattle.tables.proofs.Ancestry.{tree-tabulate}
 use Rattle.names.proofs.Rows.{rows-length, rows-at}
 use Rattle.state.specs.declared.Witness.{Witness}
 use Rattle.state.specs.Sound.{SizedVotes}
-use Rattle.state.specs.State.{votePart, modelOf, memberIn, checkpointIn, voteIn, withMember, withCheckpoint, withVote}
+use Rattle.state.specs.State.{votePart, ruleOf, quotaIn, modelOf, memberIn, checkpointIn, voteIn, withVote}
 use Rattle.state.specs.Tables.{MembersHeld, NamesHeld, HeightsHeld, AncestorsHeld, keyOf, KeysHeld, countsOf, Held}
 use Rattle.state.proofs.Store.{store-vote}
 
@@ -52,6 +52,10 @@ module _ (w : Witness) where
             let below : i < n = omega (arith, length-tabulate n (checkpointIn w)) in
             ap₂ sameBytes (ap (λ (c : Checkpoint). c .name) (tabulate-at n (checkpointIn w) noCheckpoint i below) ∙ sym (rows-at n i (w .names) below .here)) refl);
       }
+
+  pub rule-held : modelOf w .rule ≡ ruleOf (quotaIn (w .numbers))
+  unfolding modelOf
+  rule-held = refl
 
   pub heights-held : HeightsHeld (modelOf w) (w .heights) (w .«checkpoint_count»)
   unfolding modelOf checkpointAt

@@ -6,7 +6,7 @@ use mathlib.Core.List.{List, [], _∷_, _++_}
 use lib.ListN.{getD, set, length-set}
 use lib.Seq.{length-paste}
 use Rattle.model.specs.Bytes.{AreBytes}
-use Rattle.model.specs.Change.{Change, addMember, addCheckpoint, addVote, append, appendAll}
+use Rattle.model.specs.Change.{Change, addMember, addCheckpoint, addVote, giveQuota, append, appendAll}
 use Rattle.model.specs.Decide.{decide}
 use Rattle.model.specs.Model.{Model}
 use Rattle.model.specs.Run.{Event, reading, OfBytes, decideEvent}
@@ -15,9 +15,10 @@ use Rattle.model.proofs.Fits.{Fits, FitAll, one-change, changes-fit}
 use Rattle.model.proofs.Run.{event-good}
 use Rattle.state.specs.declared.Witness.{Witness}
 use Rattle.state.specs.Sound.{Typed, Sound}
-use Rattle.state.specs.State.{modelOf, withMember, withCheckpoint, withVote, store, storeAll, stored}
+use Rattle.state.specs.State.{modelOf, withMember, withCheckpoint, withVote, withQuota, store, storeAll}
+use Rattle.state.specs.State.{stored}
 use Rattle.state.proofs.Entries.{count-members, count-checkpoints, count-votes}
-use Rattle.state.proofs.Store.{store-member, store-checkpoint, store-vote}
+use Rattle.state.proofs.Store.{store-member, store-checkpoint, store-vote, store-quota}
 
 pub record Kept (w : Witness) (cs : List Change) : Type 0 where
   pub model : modelOf (storeAll w cs) ≡ appendAll (modelOf w) cs
@@ -38,9 +39,10 @@ module _ (w : Witness) (typed : Typed w) where
   store-model (addMember x) (room, narrow) = store-member w (typed .members) x (omega (arith, count-members w))
   store-model (addCheckpoint c) (room, long) = store-checkpoint w (typed .tree) c (omega (arith, count-checkpoints w)) long
   store-model (addVote v) room = store-vote w (typed .votes) v (omega (arith, count-votes w))
+  store-model (giveQuota k) ok = store-quota w k ok
 
   store-typed : (c : Change) → Fits (modelOf w) c → Typed (store w c)
-  unfolding store withMember withCheckpoint withVote
+  unfolding store withMember withCheckpoint withVote withQuota
   store-typed (addMember x) (room, narrow) =
       record {
         members = record { ids = length-set (w .ids) _ _ ∙ typed .members .ids; bonds = length-set (w .bonds) _ _ ∙ typed .members .bonds };
@@ -74,6 +76,8 @@ module _ (w : Witness) (typed : Typed w) where
             };
         ids = typed .ids;
       }
+  store-typed (giveQuota k) ok =
+      record { members = typed .members; tree = typed .tree; votes = typed .votes; ids = typed .ids }
 
 -- and changes that fit one after the other
 pub changes-kept : (w : Witness) → Typed w → (cs : List Change) → FitAll (modelOf w) cs → Kept w cs

@@ -2,6 +2,7 @@ pub mod Fields
 pub mod Entries
 pub mod Sound
 pub mod Held
+pub mod Rules
 pub mod Store
 pub mod Kept
 pub mod Stored

@@ -11,11 +11,12 @@ use Rattle.model.specs.Bytes.{part}
 use Rattle.model.specs.Lists.{tabulate}
 use Rattle.model.specs.Log.{header}
 use Rattle.model.specs.Model.{Model, start}
+use Rattle.model.specs.Rule.{standard}
 use Rattle.model.specs.WellFormed.{WellFormed}
 use Rattle.model.proofs.Run.{start-good}
 use Rattle.model.proofs.Answer.{row-passes}
 use Rattle.state.specs.Sound.{Typed, Sound}
-use Rattle.state.specs.State.{place, height, emptyWitness, modelOf}
+use Rattle.state.specs.State.{place, height, emptyWitness, ruleOf, modelOf}
 use Rattle.state.proofs.Store.{paste-new}
 
 zeros : ℕ → List ℕ
@@ -39,9 +40,14 @@ root-table : (n : ℕ) (name : List ℕ) → 32 ≤ n → length name ≡ 32 →
 root-table n name h long = length-paste (zeros n) 0 name 32 (omega (arith, zeros-long n)) (omega arith) ∙ zeros-long n
 
 pub empty-model : (name : List ℕ) → length name ≡ 32 → modelOf (emptyWitness name) ≡ start name
-unfolding modelOf emptyWitness start tabulate zeros
+unfolding modelOf ruleOf emptyWitness start tabulate zeros
 empty-model name long =
-    λ i. record { members = []; checkpoints = record { name = root-name 16384 name (omega arith) long i; parent = 0; height = 0 } ∷ []; votes = [] }
+    λ i. record {
+      rule = standard;
+      members = [];
+      checkpoints = record { name = root-name 16384 name (omega arith) long i; parent = 0; height = 0 } ∷ [];
+      votes = [];
+    }
 
 pub empty-typed : (name : List ℕ) → length name ≡ 32 → Typed (emptyWitness name)
 unfolding emptyWitness zeros

@@ -7,13 +7,18 @@ use mathlib.Core.List.{List, [], _∷_, _++_, map, append-assoc}
 use lib.ListN.{length, getD, set, take, drop, length-map, length-drop, take-append-drop}
 use lib.Seq.{paste, paste-suc, getD-drop, getD-set-same, getD-set-other, take-at, drop-at, take-all, length-take-le, take-append-le, drop-append-le}
 use Rattle.model.specs.Bytes.{part}
-use Rattle.model.specs.Change.{addMember, addCheckpoint, addVote, append}
+use Rattle.model.specs.Change.{addMember, addCheckpoint, addVote, giveQuota, append}
 use Rattle.model.specs.Lists.{tabulate}
-use Rattle.model.specs.Model.{Member, Checkpoint, Vote, withMembers, withCheckpoints, withVotes}
+use Rattle.model.specs.Model.{Member, Checkpoint, Vote, withRule, withMembers, withCheckpoints, withVotes}
+use Rattle.model.specs.Rule.{Permitted}
+use Rattle.model.specs.declared.Quota.{Quota}
 use Rattle.model.proofs.Lists.{tabulate-same}
 use Rattle.state.specs.declared.Witness.{Witness}
 use Rattle.state.specs.Sound.{SizedMembers, SizedTree, SizedVotes}
-use Rattle.state.specs.State.{memberPart, treePart, votePart, place, height, memberIn, checkpointIn, voteIn, modelOf, withMember, withCheckpoint, withVote}
+use Rattle.state.specs.State.{memberPart, treePart, votePart, place, height, memberIn, checkpointIn, voteIn}
+use Rattle.state.specs.State.{modelOf}
+use Rattle.state.specs.State.{withMember, withCheckpoint, withVote, withQuota}
+use Rattle.state.proofs.Rules.{rule-given}
 
 -- an array's length, from that of the list of its elements' values
 pub length-any : (X Y : Type 0) (f : X → Y) (l : List X) (n : ℕ) → length (map f l) ≡ n → length l ≡ n
@@ -89,6 +94,10 @@ module _ (w : Witness) where
         parent = set-new (w .parents) n (place (c .parent)) (place 0) (omega (arith, sized .parents)) j .0;
         height = set-new (w .heights) n (height (c .height)) (height 0) (omega (arith, sized .heights)) j .0;
       }))
+
+  pub store-quota : (k : Quota) → Permitted k → modelOf (withQuota w k) ≡ append (modelOf w) (giveQuota k)
+  unfolding modelOf withQuota append
+  store-quota k ok = ap (withRule (modelOf w)) (rule-given k ok)
 
   pub store-vote : SizedVotes (votePart w) → (v : Vote) → w .«vote_count» < 4096 → modelOf (withVote w v) ≡ append (modelOf w) (addVote v)
   unfolding modelOf withVote append

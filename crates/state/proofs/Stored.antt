@@ -36,6 +36,7 @@ madeWith names =
     witnessOf (record { ids = replicate 128 0; bonds = replicate 128 0; count = 0 })
     (record { names = names; parents = replicate 512 (place 0); heights = replicate 512 (height 0); count = 1 })
     (record { voters = replicate 4096 0; sources = replicate 4096 (place 0); targets = replicate 4096 (place 0); count = 0 })
+    (record { p = 0; q = 0 })
 
 pub empty-is : (log : List ℕ) {names : List ℕ} → names ≡ paste (replicate 16384 0) 0 (drop 5 log) 32 → madeWith names ≡ emptyWitness (part 5 32 log)
 unfolding emptyWitness

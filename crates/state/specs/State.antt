@@ -1,15 +1,20 @@
 -- The model that a witness holds, and the witness with something more.
 use Prim.Native.Nat.{ℕ, _+_, _*_}
 use mathlib.Core.List.{List, [], _∷_}
+use mathlib.Core.Bool.{cond, _&&_}
+use lib.Dec.{eqb}
 use lib.ListN.{getD, set, replicate}
 use lib.Seq.{paste}
 use Rattle.model.specs.Bytes.{part}
-use Rattle.model.specs.Change.{Change, addMember, addCheckpoint, addVote, Decision}
+use Rattle.model.specs.Change.{Change, addMember, addCheckpoint, addVote, giveQuota, Decision}
 use Rattle.model.specs.Limits.{memberLimit, checkpointLimit, voteLimit}
 use Rattle.model.specs.Lists.{tabulate}
 use Rattle.model.specs.Model.{Member, Checkpoint, Vote, Model}
+use Rattle.model.specs.Rule.{Rule, standard, given}
+use Rattle.model.specs.declared.Quota.{Quota}
 use Rattle.model.specs.declared.Place.{Place}
 use Rattle.model.specs.declared.Height.{Height}
+use Rattle.state.specs.declared.Numbers.{Numbers}
 use Rattle.state.specs.declared.Witness.{Witness}
 
 abbrev pub place : ℕ → Place
@@ -29,16 +34,24 @@ checkpointIn w i = record { name = part (i * 32) 32 (w .names); parent = getD (w
 abbrev pub voteIn : Witness → ℕ → Vote
 voteIn w i = record { voter = getD (w .voters) i 0; source = getD (w .sources) i (place 0) .0; target = getD (w .targets) i (place 0) .0 }
 
--- the model: of each array the first so many entries as its count says
+-- the rule by p and q: where both are 0, none was given
+unfoldable pub ruleOf : Quota → Rule
+ruleOf k = cond (eqb (k .p) 0 && eqb (k .q) 0) standard (given k)
+
+abbrev pub quotaIn : Numbers → Quota
+quotaIn n = record { p = n .p; q = n .q }
+
+-- the model: the rule, and of each array the first so many entries as its count says
 unfoldable pub modelOf : Witness → Model
 modelOf w =
     record {
+      rule = ruleOf (quotaIn (w .numbers));
       members = tabulate (w .«member_count») (memberIn w);
       checkpoints = tabulate (w .«checkpoint_count») (checkpointIn w);
       votes = tabulate (w .«vote_count») (voteIn w);
     }
 
--- the three parts of a state, each with the count of what it holds
+-- three parts of a state, each with the count of what it holds; beside them stand the numbers
 
 pub record MemberPart : Type 0 where
   pub ids : List ℕ
@@ -66,8 +79,8 @@ treePart w = record { names = w .names; parents = w .parents; heights = w .heigh
 abbrev pub votePart : Witness → VotePart
 votePart w = record { voters = w .voters; sources = w .sources; targets = w .targets; count = w .«vote_count» }
 
-abbrev pub witnessOf : MemberPart → TreePart → VotePart → Witness
-witnessOf m t v =
+abbrev pub witnessOf : MemberPart → TreePart → VotePart → Numbers → Witness
+witnessOf m t v n =
     record {
       ids = m .ids;
       bonds = m .bonds;
@@ -80,18 +93,22 @@ witnessOf m t v =
       «member_count» = m .count;
       «checkpoint_count» = t .count;
       «vote_count» = v .count;
+      numbers = n;
     }
 
--- a state with another part
+-- a state with another part, or other numbers
 
 abbrev pub withMemberPart : Witness → MemberPart → Witness
-withMemberPart w p = witnessOf p (treePart w) (votePart w)
+withMemberPart w p = witnessOf p (treePart w) (votePart w) (w .numbers)
 
 abbrev pub withTreePart : Witness → TreePart → Witness
-withTreePart w p = witnessOf (memberPart w) p (votePart w)
+withTreePart w p = witnessOf (memberPart w) p (votePart w) (w .numbers)
 
 abbrev pub withVotePart : Witness → VotePart → Witness
-withVotePart w p = witnessOf (memberPart w) (treePart w) p
+withVotePart w p = witnessOf (memberPart w) (treePart w) p (w .numbers)
+
+abbrev pub withNumbers : Witness → Numbers → Witness
+withNumbers w n = witnessOf (memberPart w) (treePart w) (votePart w) n
 
 -- one more of each, at the end; the array's later entries stay as they are
 
@@ -122,11 +139,16 @@ withVote w v =
       count = n + 1;
     })
 
+-- the quota that a record gave
+unfoldable pub withQuota : Witness → Quota → Witness
+withQuota w k = withNumbers w (record { p = k .p; q = k .q })
+
 -- a change, stored
 unfoldable pub store : Witness → Change → Witness
 store w (addMember x) = withMember w x
 store w (addCheckpoint c) = withCheckpoint w c
 store w (addVote v) = withVote w v
+store w (giveQuota k) = withQuota w k
 
 unfoldable pub storeAll : Witness → List Change → Witness
 storeAll w [] = w
@@ -152,3 +174,4 @@ emptyWitness name =
       targets = replicate voteLimit (place 0);
       count = 0;
     })
+    (record { p = 0; q = 0 })

@@ -17,8 +17,17 @@ ghost use Rattle.model.specs.Log.{header};
 ghost use Rattle.state.specs.State.{emptyWitness};
 ghost use Rattle.state.specs.Reading.{IsBeginning};
 
+pub mod quotas;
+
+// The numbers beside the arrays: p and q of the quorum that a record gave, both 0 where none was given.
+#[repr(C)]
+pub struct Numbers {
+    pub p: u16,
+    pub q: u16,
+}
+
 // What is held, in arrays: of each, the first so many entries as its count says; what stands past them means nothing.
-// A name is 32 bytes of `names`, at 32 times its place.
+// A name is 32 bytes of `names`, at 32 times its place. Beside the arrays stand the numbers.
 #[repr(C)]
 pub struct Witness {
     pub ids: [u16; MAX_MEMBERS],
@@ -32,6 +41,7 @@ pub struct Witness {
     pub member_count: usize,
     pub checkpoint_count: usize,
     pub vote_count: usize,
+    pub numbers: Numbers,
 }
 
 // How many of each are held.
@@ -95,6 +105,7 @@ fn empty(log: &[u8]) -> Witness
         member_count: 0,
         checkpoint_count: 1,
         vote_count: 0,
+        numbers: Numbers { p: 0, q: 0 },
     }
 }
 

@@ -18,15 +18,15 @@ use Rattle.tally.specs.Bits.{among, countBelow}
 use Rattle.tally.specs.Chains.{aims, Walkable, Tallied}
 use Rattle.tally.specs.Weights.{Bonds, Fits, weightOf, enough, carried}
 use Rattle.tally.proofs.Backed.{Backers, who-held, backers}
-use Rattle.tally.proofs.Totals.{bonds-good, quota-fits, count-is, weight-is, carried-is}
+use Rattle.tally.proofs.Totals.{bonds-good, bar-fits, count-is, weight-is, carried-is}
 use Rattle.tally.proofs.Weights.{sum-more}
 
 module _ {w : Witness} {b : Ballots} (r : Ready w b) where
   pub ready-bonds : Bonds (w .bonds) (w .«member_count»)
   ready-bonds = bonds-good w (r .sound)
 
-  pub ready-quota : Fits (b .quota)
-  ready-quota = quota-fits w (r .sound) (r .quota)
+  pub ready-bar : Fits (b .bar)
+  ready-bar = bar-fits w (r .sound) (r .bar)
 
   -- the chain of a target can be walked
   pub ready-walk : (t : ℕ) → t < 512 → Walkable (b .who) (b .from) (b .next) (getD (b .head) t 0)
@@ -56,16 +56,16 @@ module _ {w : Witness} {b : Ballots} (r : Ready w b) where
     backed : Backers w s t (tally s)
     backed = backers r t tally h all s l
 
-    -- the voters carry a link exactly when it is a supermajority link
-    pub ready-link : carried (w .bonds) (w .«member_count») (b .quota) (tally s) ≡ link? (modelOf w) s t
+    -- the voters carry a link exactly when it has a quorum
+    pub ready-link : carried (w .bonds) (w .«member_count») (b .bar) (tally s) ≡ link? (modelOf w) s t
     unfolding link?
-    ready-link = carried-is w (supports (modelOf w) s t) (tally s) (backed .held) (r .quota) t
+    ready-link = carried-is w (supports (modelOf w) s t) (tally s) (backed .held) (r .bar) t
 
     -- their number, the sum of their bonds, and yes or no
     pub ready-support : {number bonds : ℕ} {yes : Bool}
         → number ≡ countBelow 128 (among (tally s))
         → bonds ≡ weightOf (w .bonds) (w .«member_count») (tally s)
-        → yes ≡ enough bonds (b .quota)
+        → yes ≡ enough bonds (b .bar)
         → _≡_ {A = Support} (record { number = number; bonds = bonds; yes? = yes }) (support (modelOf w) s t)
     unfolding support link?
     ready-support n x y =
@@ -76,5 +76,5 @@ module _ {w : Witness} {b : Ballots} (r : Ready w b) where
         record {
           number = (n ∙ few ∙ count-is w A v (backed .held)) i;
           bonds = (x ∙ weight-is w A v (backed .held)) i;
-          yes? = (y ∙ ap (λ (k : ℕ). enough k (b .quota)) x ∙ carried-is w A v (backed .held) (r .quota) t) i;
+          yes? = (y ∙ ap (λ (k : ℕ). enough k (b .bar)) x ∙ carried-is w A v (backed .held) (r .bar) t) i;
         }

@@ -1,23 +1,25 @@
 -- Sums over the arrays of a witness: they are what its model sums, and in a sound state they fit.
 use Prim.Native.Nat.{ℕ, zero, suc, _+_, _<_, _≤_}
 use native.Mathlib.Omega.{arith}
-use mathlib.Core.Path.{_≡_, refl, sym, ap, ap₂, _∙_, subst}
+use mathlib.Core.Path.{_≡_, refl, sym, ap, _∙_, subst}
 use mathlib.Core.List.{List, [], _∷_, _++_}
 use mathlib.Core.Bool.{Bool, true, cond}
 use lib.ListN.{getD}
-use Rattle.model.specs.Limits.{bondLimit}
+use Rattle.model.specs.Limits.{bondLimit, partLimit}
 use Rattle.model.specs.Lists.{tabulate}
-use Rattle.model.specs.Model.{Member}
+use Rattle.model.specs.Model.{Member, quota}
+use Rattle.model.specs.Rule.{quotaOf}
 use Rattle.model.specs.Support.{count, sum, total, quorum, carries}
+use Rattle.model.specs.declared.Quota.{Quota}
 use Rattle.state.specs.declared.Witness.{Witness}
 use Rattle.state.specs.Sound.{Sound}
-use Rattle.state.specs.State.{memberIn, modelOf}
+use Rattle.state.specs.State.{memberIn, ruleOf, quotaIn, modelOf}
 use Rattle.state.proofs.Entries.{count-members, member-is}
 use Rattle.state.proofs.Sound.{few-members}
 use Rattle.tally.specs.declared.voters.Voters.{Voters}
-use Rattle.tally.specs.declared.voters.Quota.{Quota}
+use Rattle.tally.specs.declared.voters.Bar.{Bar}
 use Rattle.tally.specs.Bits.{among, sumBelow, countBelow}
-use Rattle.tally.specs.Weights.{Bonds, Fits, IsQuota, weightOf, carried}
+use Rattle.tally.specs.Weights.{Bonds, Fits, IsBar, weightOf, carried}
 use Rattle.tally.proofs.Bits.{sum-same, sum-bound}
 
 -- ---- the model's sums over a table of members
@@ -50,9 +52,11 @@ module _ (w : Witness) where
   unfolding modelOf
   all-sum = sym (sum-table (λ x. true) (w .«member_count») (memberIn w))
 
-  pub quota-is : {whole : ℕ} → whole ≡ sumBelow (w .«member_count») (λ i. true) (λ i. getD (w .bonds) i 0)
-      → IsQuota (modelOf w) (record { total = whole })
-  quota-is e = record { whole = e ∙ all-sum }
+  pub bar-is : {k : Quota} {whole : ℕ} → k ≡ quotaOf (ruleOf (quotaIn (w .numbers)))
+      → whole ≡ sumBelow (w .«member_count») (λ i. true) (λ i. getD (w .bonds) i 0)
+      → IsBar (modelOf w) (record { p = k .p; q = k .q; total = whole })
+  unfolding modelOf
+  bar-is parts e = record { parts = parts; whole = e ∙ all-sum }
 
   -- voters who are exactly the members that pass a test
   module _ (A : Member → Bool) (v : Voters) (are : (i : ℕ) → i < w .«member_count» → among v i ≡ A (memberIn w i)) where
@@ -64,10 +68,10 @@ module _ (w : Witness) where
     unfolding modelOf
     weight-is = sum-same _ _ _ _ _ are (λ i l. refl) ∙ sym (sum-table A (w .«member_count») (memberIn w))
 
-    pub carried-is : {quota : Quota} → IsQuota (modelOf w) quota
-        → (t : ℕ) → carried (w .bonds) (w .«member_count») quota v ≡ carries (modelOf w) t A
+    pub carried-is : {bar : Bar} → IsBar (modelOf w) bar
+        → (t : ℕ) → carried (w .bonds) (w .«member_count») bar v ≡ carries (modelOf w) t A
     unfolding carries
-    carried-is q t = ap₂ quorum weight-is (q .whole)
+    carried-is is t = λ i. quorum (is .parts i) (weight-is i) (is .whole i)
 
 -- ---- in a sound state they fit
 
@@ -82,7 +86,13 @@ module _ (w : Witness) (sound : Sound w) where
             (sound .good .members .bond-high i (omega (arith, count-members w)));
       }
 
-  pub quota-fits : {quota : Quota} → IsQuota (modelOf w) quota → Fits quota
-  quota-fits q =
+  pub bar-fits : {bar : Bar} → IsBar (modelOf w) bar → Fits bar
+  bar-fits is =
       let bound = sum-bound (w .«member_count») bondLimit (λ i. true) (λ i. getD (w .bonds) i 0) (bonds-good .each) in
-      record { whole = omega (arith, q .whole, all-sum w, bound, few-members w sound) }
+      let rule = sound .good .rule in
+      let most : quota (modelOf w) .p ≤ partLimit = omega (arith, rule .within, rule .few) in
+      record {
+        p = subst (λ (k : Quota). k .p ≤ partLimit) (sym (is .parts)) most;
+        q = subst (λ (k : Quota). k .q ≤ partLimit) (sym (is .parts)) (rule .few);
+        whole = omega (arith, is .whole, all-sum w, bound, few-members w sound);
+      }

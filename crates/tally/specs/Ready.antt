@@ -7,10 +7,10 @@ use Rattle.state.specs.Sound.{Sound}
 use Rattle.state.specs.State.{modelOf}
 use Rattle.tally.specs.declared.votes.Ballots.{Ballots}
 use Rattle.tally.specs.Chains.{Placed, Sourced, ByTarget}
-use Rattle.tally.specs.Weights.{IsQuota}
+use Rattle.tally.specs.Weights.{IsBar}
 
--- each vote's member is found and its source is copied, the votes are in chains by target, and the quota is that of all
--- members
+-- each vote's member is found and its source is copied, the votes are in chains by target, and the bar is that of the
+-- rule held and all members
 pub record Ready (w : Witness) (b : Ballots) : Type 0 where
   pub sound : Sound w
   pub long : length (b .who) ≡ voteLimit
@@ -18,4 +18,4 @@ pub record Ready (w : Witness) (b : Ballots) : Type 0 where
   pub found : Placed (w .ids) (w .«member_count») (w .voters) (w .«vote_count») (b .who)
   pub sourced : Sourced (w .sources) (w .«vote_count») (b .from)
   pub chained : ByTarget (w .targets) (w .«vote_count») (b .head) (b .next)
-  pub quota : IsQuota (modelOf w) (b .quota)
+  pub bar : IsBar (modelOf w) (b .bar)

@@ -5,11 +5,12 @@ use mathlib.Core.List.{List}
 use mathlib.Core.Bool.{Bool, false, cond}
 use lib.Dec.{ltb}
 use lib.ListN.{length, getD}
-use Rattle.model.specs.Limits.{memberLimit, bondLimit}
-use Rattle.model.specs.Model.{Model}
+use Rattle.model.specs.Limits.{memberLimit, bondLimit, partLimit}
+use Rattle.model.specs.Model.{Model, quota}
 use Rattle.model.specs.Support.{total, quorum}
+use Rattle.model.specs.declared.Quota.{Quota}
 use Rattle.tally.specs.declared.voters.Voters.{Voters}
-use Rattle.tally.specs.declared.voters.Quota.{Quota}
+use Rattle.tally.specs.declared.voters.Bar.{Bar}
 use Rattle.tally.specs.declared.links.Weighed.{Weighed}
 use Rattle.tally.specs.Bits.{among, sumBelow}
 use Rattle.tally.specs.Chains.{nobody}
@@ -43,18 +44,25 @@ abbrev pub IsHeaviest : List ℕ → ℕ → List Bool → (ℕ → Voters) → 
 IsHeaviest bonds members marks tally n r =
     IsWeighed bonds members r × (r .voters ≡ heaviest (weightOf bonds members) marks tally n)
 
--- a quota whose numbers are small enough to be multiplied
-pub record Fits (quota : Quota) : Type 0 where
-  pub whole : quota .total ≤ memberLimit * bondLimit
+-- p of q parts
+abbrev pub partsOf : Bar → Quota
+partsOf bar = record { p = bar .p; q = bar .q }
 
--- the quota of a model's members
-pub record IsQuota (m : Model) (quota : Quota) : Type 0 where
-  pub whole : quota .total ≡ total (m .members)
+-- a bar whose numbers are small enough to be multiplied
+pub record Fits (bar : Bar) : Type 0 where
+  pub p : bar .p ≤ partLimit
+  pub q : bar .q ≤ partLimit
+  pub whole : bar .total ≤ memberLimit * bondLimit
 
--- bonds that come to `part` are a supermajority
-abbrev pub enough : ℕ → Quota → Bool
-enough part quota = quorum part (quota .total)
+-- the bar by a model's rule and members
+pub record IsBar (m : Model) (bar : Bar) : Type 0 where
+  pub parts : partsOf bar ≡ quota m
+  pub whole : bar .total ≡ total (m .members)
 
--- these voters are a supermajority
-abbrev pub carried : List ℕ → ℕ → Quota → Voters → Bool
-carried bonds members quota v = enough (weightOf bonds members v) quota
+-- bonds that come to `part` are a quorum
+abbrev pub enough : ℕ → Bar → Bool
+enough part bar = quorum (partsOf bar) part (bar .total)
+
+-- these voters are a quorum
+abbrev pub carried : List ℕ → ℕ → Bar → Voters → Bool
+carried bonds members bar v = enough (weightOf bonds members v) bar

@@ -1,5 +1,5 @@
 // The links to one target.
-use crate::voters::Quota;
+use crate::voters::Bar;
 use crate::voters::Voters;
 use crate::voters::carries;
 use crate::voters::weigh;
@@ -12,7 +12,7 @@ ghost use Rattle.model.specs.Lists.{anyBelow};
 ghost use Rattle.tally.specs.Chains.{votersAt};
 ghost use Rattle.tally.specs.Weights.{Bonds, Fits, IsWeighed, IsHeaviest, weightOf, heavier, carried};
 
-// Whether a supermajority link from a justified place below t leads to t. The voters of the link from place s are
+// Whether a link with a quorum leads to t from a justified place below it. The voters of the link from place s are
 // `lo[s]` and `hi[s]`.
 pub fn reaches<'a>(
     lo: &'a [u64],
@@ -21,20 +21,20 @@ pub fn reaches<'a>(
     t: Place,
     bonds: &'a [u64],
     members: usize,
-    quota: Quota,
+    bar: Bar,
 ) -> bool
     requires { ⌜
         (t .0 ≤ length (now lo))
         × (t .0 ≤ length (now hi))
         × (t .0 ≤ length (now justified))
         × Bonds (now bonds) members
-        × Fits quota
+        × Fits bar
         ⌝ }
     ensures { λ r. ⌜
         (let v = votersAt (now (lo .entry)) (now (hi .entry)) in
         r
         ≡ anyBelow (t .0)
-        (λ s. getD (now (justified .entry)) s false && carried (now (bonds .entry)) members quota (v s)))
+        (λ s. getD (now (justified .entry)) s false && carried (now (bonds .entry)) members bar (v s)))
         ⌝ }
 {
     let end = t.0 as usize;
@@ -45,7 +45,7 @@ pub fn reaches<'a>(
                 lo: lo[s],
                 hi: hi[s],
             };
-            if carries(v, bonds, members, quota) {
+            if carries(v, bonds, members, bar) {
                 return true;
             }
         }

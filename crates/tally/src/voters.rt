@@ -92,24 +92,26 @@ pub fn total_bond(bonds: &[u64], members: usize) -> u64
     weigh(everybody, bonds, members)
 }
 
-// What a quorum is measured against: the bonds of all members.
-pub struct Quota {
+// What a quorum is measured against: p of q parts of the bonds of all members.
+pub struct Bar {
+    pub p: u64,
+    pub q: u64,
     pub total: u64,
 }
 
-// Document 01's supermajority. No sum of 128 bonds is so large that three times it would not fit.
-pub fn is_quorum(part: u64, quota: Quota) -> bool
-    requires { ⌜ (part ≤ memberLimit * bondLimit) × Fits quota ⌝ }
-    ensures { λ r. ⌜ r ≡ enough part quota ⌝ }
+// Whether bonds that come to `part` are a quorum. No sum of 128 bonds is so large that 1,000 times it would not fit.
+pub fn is_quorum(part: u64, bar: Bar) -> bool
+    requires { ⌜ (part ≤ memberLimit * bondLimit) × Fits bar ⌝ }
+    ensures { λ r. ⌜ r ≡ enough part bar ⌝ }
 {
-    let whole = quota.total;
-    (0 < whole) & (2 * whole <= 3 * part)
+    let whole = bar.total;
+    (0 < whole) & (bar.p * whole <= bar.q * part)
 }
 
-// Whether these voters are a supermajority.
-pub fn carries(v: Voters, bonds: &[u64], members: usize, quota: Quota) -> bool
-    requires { ⌜ Bonds (now bonds) members × Fits quota ⌝ }
-    ensures { λ r. ⌜ r ≡ carried (now (bonds .entry)) members quota v ⌝ }
+// Whether these voters are a quorum.
+pub fn carries(v: Voters, bonds: &[u64], members: usize, bar: Bar) -> bool
+    requires { ⌜ Bonds (now bonds) members × Fits bar ⌝ }
+    ensures { λ r. ⌜ r ≡ carried (now (bonds .entry)) members bar v ⌝ }
 {
-    is_quorum(weigh(v, bonds, members), quota)
+    is_quorum(weigh(v, bonds, members), bar)
 }

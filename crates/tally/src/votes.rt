@@ -1,5 +1,5 @@
 // The votes by target, and the voters of every link to one target.
-use crate::voters::Quota;
+use crate::voters::Bar;
 use crate::voters::Voters;
 use crate::voters::insert;
 use crate::voters::total_bond;
@@ -7,6 +7,7 @@ use model::MAX_CHECKPOINTS;
 use model::MAX_VOTES;
 use model::Place;
 use state::Witness;
+use state::quotas::quota_of;
 ghost use mathlib.Core.Path.{_≡_};
 ghost use Prim.Native.Nat.{ℕ, _≤_, _<_};
 ghost use lib.ListN.{length};
@@ -78,13 +79,13 @@ pub fn bucket(targets: [Place; MAX_VOTES], count: usize) -> Buckets
 }
 
 // The votes of a witness, ready to be counted: the places of each vote's member and source, the votes in chains, and
-// the quota.
+// the bar for a quorum.
 pub struct Ballots {
     pub who: [u16; MAX_VOTES],
     pub from: [u16; MAX_VOTES],
     pub head: [u16; MAX_CHECKPOINTS],
     pub next: [u16; MAX_VOTES],
-    pub quota: Quota,
+    pub bar: Bar,
 }
 
 // Makes the votes of a sound state ready.
@@ -102,13 +103,17 @@ pub fn prepare(w: Witness) -> Ballots
     let head = chains.head;
     let next = chains.next;
     let total = total_bond(&w.bonds, members);
-    let quota = Quota { total };
+    let numbers = w.numbers;
+    let quota = quota_of(numbers);
+    let p = quota.p as u64;
+    let q = quota.q as u64;
+    let bar = Bar { p, q, total };
     Ballots {
         who,
         from,
         head,
         next,
-        quota,
+        bar,
     }
 }
 

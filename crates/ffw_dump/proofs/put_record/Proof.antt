@@ -18,9 +18,17 @@ put-vote-requires : tie.Need-put-vote-requires
 unfolding recordSize sizeOf kindOf
 put-vote-requires c κs = let start = c .before .before .before .before in (omega (arith, ap recordSize (c .before .match .keys3), start .pre .0), start .pre .1)
 
+put-quorum-requires : tie.Need-put-quorum-requires
+unfolding recordSize sizeOf kindOf
+put-quorum-requires c κs =
+    let start = c .before .before .before .before in
+    (omega (arith, ap recordSize (c .before .match .keys4), start .pre .0), start .pre .1)
+
 put-bundle-requires : tie.Need-put-bundle-requires
 unfolding recordSize sizeOf kindOf
-put-bundle-requires c κs = let start = c .before .before .before .before in (omega (arith, ap recordSize (c .before .match .keys4), start .pre .0), start .pre .1)
+put-bundle-requires c κs =
+    let start = c .before .before .before .before in
+    (omega (arith, ap recordSize (c .before .match .keys5), start .pre .0), start .pre .1)
 
 slice-aggregate-put-field : tie.Need-slice-aggregate-put-field
 slice-aggregate-put-field c = search needs
@@ -61,6 +69,12 @@ same-length-5 c = search needs
 returns-5 : tie.Need-returns-5
 returns-5 c = search needs
 
+same-length-6 : tie.Need-same-length-6
+same-length-6 c = search needs
+
+returns-6 : tie.Need-returns-6
+returns-6 c = search needs
+
 pub put-record-spec : {M : Type 1} → statement M
 put-record-spec =
     tie.close
@@ -68,6 +82,7 @@ put-record-spec =
     put-member-requires
     put-checkpoint-requires
     put-vote-requires
+    put-quorum-requires
     put-bundle-requires
     slice-aggregate-put-field
     wide-requires
@@ -81,4 +96,6 @@ put-record-spec =
     same-length-4
     returns-4
     same-length-5
-    returns-5)
+    returns-5
+    same-length-6
+    returns-6)

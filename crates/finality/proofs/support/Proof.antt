@@ -4,7 +4,7 @@ use native.Mathlib.Omega.{arith}
 use mathlib.Core.Path.{refl}
 use borrow.Author.Needs.{needs}
 use Rattle.state.proofs.Sound.{few-checkpoints}
-use Rattle.tally.proofs.Ready.{ready-bonds, ready-quota, ready-walk, ready-support}
+use Rattle.tally.proofs.Ready.{ready-bonds, ready-bar, ready-walk, ready-support}
 use Rattle.finality.proofs.support.Statement.{statement}
 use Rattle.finality.proofs.support.Tie as tie
 
@@ -70,7 +70,7 @@ array-read-t39 c =
     omega (arith, low (ready (c .before .before)))
 
 backed-by-requires : tie.Need-backed-by-requires
-backed-by-requires c κs = search (needs, ready-bonds, ready-quota)
+backed-by-requires c κs = search (needs, ready-bonds, ready-bar)
 
 returns : tie.Need-returns
 returns c =

@@ -29,11 +29,11 @@ use Rattle.rules.specs.declared.votes.Ballot.the-variants.{Cast}
 use Rattle.rules.proofs.Bundled.{cast-fits}
 use Rattle.state.specs.Reading.{outcomeOf, rowOf, brief}
 use Rattle.state.specs.Sound.{Sound}
-use Rattle.state.specs.State.{modelOf, withMember, withCheckpoint, withVote, store, storeAll, stored}
+use Rattle.state.specs.State.{modelOf, withMember, withCheckpoint, withVote, withQuota, store, storeAll, stored}
 use Rattle.state.specs.declared.Witness.{Witness}
 use Rattle.state.proofs.Entries.{count-members, count-checkpoints, count-votes}
 use Rattle.state.proofs.Fields.{part-at}
-use Rattle.state.proofs.Held.{keys-held, all-held}
+use Rattle.state.proofs.Held.{keys-held, all-held, rule-held}
 use Rattle.state.proofs.Sound.{few-checkpoints, few-votes, ids-long, voters-long, falling, low-heights}
 use Rattle.state.proofs.Stored.{checkpoint-stored}
 use Rattle.bits.proofs.SetPlaces.{among, few-set}
@@ -77,7 +77,7 @@ abbrev opened : tie.After-index Inv-loop2 μ-loop2 Inv-loop μ-loop → tie.Afte
 opened c = lent (c .before .before .before)
 
 abbrev held-there : tie.After-decide-record-arg2 Inv-loop2 μ-loop2 Inv-loop μ-loop → tie.In-loop Inv-loop2 μ-loop2 Inv-loop μ-loop
-held-there c = c .before .before .before .before .before
+held-there c = c .before .before .before .before .before .before
 
 abbrev round : tie.After-decide-record Inv-loop2 μ-loop2 Inv-loop μ-loop → tie.In-loop Inv-loop2 μ-loop2 Inv-loop μ-loop
 round c = held-there (c .before .before .before .before .before .before)
@@ -129,7 +129,9 @@ free c = let l = c .before .loop in leb-true 128 (length (l .rows) - l .used) (a
 -- what is decided, and of a bundle its bits
 known : (c : tie.After-decide-record Inv-loop2 μ-loop2 Inv-loop μ-loop)
     → Says (held c) (log c) (next c) (c .decide-record .result) × BitsFit (held c .«member_count») (s c) (c .decide-record .result)
-known c = c .decide-record .ensures (modelOf (held c)) (all-held (held c) (ids-long (held c) (sound c)) (round c .before .loop .inv .1 .votes))
+known c =
+    c .decide-record .ensures (modelOf (held c)) (rule-held (held c))
+    (all-held (held c) (ids-long (held c) (sound c)) (round c .before .loop .inv .1 .votes))
 
 -- once its case is known: what is added fits
 fits : (c : tie.After-decide-record Inv-loop2 μ-loop2 Inv-loop μ-loop) (d : Decision) {x : Change} → c .decide-record .result ≡ d → decisionOf (modelOf (held c)) (s c) d .changes ≡ x ∷ [] → Fits (modelOf (held c)) x
@@ -546,6 +548,9 @@ loop2-again c =
     (skip (sound (bundle t)) (casting i) (i .loop2-test .taken) (sym (c .before .is-set .ensures) ∙ x .0 .left))))
     (c .if2 .came)
 
+enum-known-d-5 : tie.Need-enum-known-d-5 Inv-loop2 μ-loop2 Inv-loop μ-loop
+enum-known-d-5 c = search needs
+
 enum-told-2 : tie.Need-enum-told-2 Inv-loop2 μ-loop2 Inv-loop μ-loop
 enum-told-2 c = search needs
 
@@ -622,7 +627,7 @@ bundle-left c {keys} {heads} {nexts} {p} {rows} {v} {end} casting past =
     }
 
 leaves : (c : tie.At-match-came Inv-loop2 μ-loop2 Inv-loop μ-loop) → Leaves (c .before) (c .match .rows) (c .match .keys) (c .match .heads) (c .match .nexts) (c .match .held) (c .match .end)
-unfolding single storeAll store withMember withCheckpoint withVote
+unfolding single storeAll store withMember withCheckpoint withVote withQuota
 leaves c =
     let o = c .before in
     let r = decided o in
@@ -646,8 +651,14 @@ leaves c =
     let left = bundle-left (record { before = record { before = record { before = o; match = b .0 }; d4 = b .1 }; known-told4 = b .2 }) (b .3 .inv) (b .4 .left) in
     transport (λ i. Leaves o (sym (b .5) i) (sym (b .6) i) (sym (b .7) i) (sym (b .8) i) (sym (b .9) i) (sym (b .10) i)) left)
     (⊎-elim
+    (λ q.
+    by-case o (q .1 .given .1) (q .3) (q .4) (q .5) (q .6) (q .7) (q .8) (without-vote w so _ refl)
+    (entry-written o (decided-as r (q .1 .given .1)) taken-entry))
+    (⊎-elim
     (λ n. by-case o (n .1 .given .1) (n .2) (n .3) (n .4) (n .5) (n .6) (n .7) so (entry-written o (decided-as r (n .1 .given .1)) nothing-entry))
-    (λ n. by-case o (n .1 .given .1) (n .2) (n .3) (n .4) (n .5) (n .6) (n .7) so (entry-written o (decided-as r (n .1 .given .1)) (refused-entry _)))))))
+    (λ n.
+    by-case o (n .1 .given .1) (n .2) (n .3) (n .4) (n .5) (n .6) (n .7) so
+    (entry-written o (decided-as r (n .1 .given .1)) (refused-entry _))))))))
     (c .match .came)
 
 add-next : tie.Need-add-next Inv-loop2 μ-loop2 Inv-loop μ-loop
@@ -751,6 +762,7 @@ read-many-spec =
     add-p
     loop2-less
     loop2-again
+    enum-known-d-5
     enum-told-2
     enum-told-3
     add-next

@@ -1,7 +1,6 @@
 -- `rules::decide_record` meets its contract: row 5 by the record's size, then the rows of its kind. Assumes nothing.
 use Prim.Native.Nat.{ℕ, _-_, _<_, _≤_}
 use mathlib.Core.Path.{_≡_, refl, sym, ap, _∙_}
-use mathlib.Core.Logic.{⊎-elim}
 use mathlib.Core.List.{List}
 use native.Mathlib.Omega.{arith}
 use borrow.Author.Needs.{needs}
@@ -24,6 +23,10 @@ lent c = c .before .before .before .before .before .before
 
 abbrev start : tie.Else1 → tie.Start
 start c = lent (c .before)
+
+-- the counts that row 10 asks for are read
+abbrev whole : tie.After-struct-known2 → tie.Else2
+whole c = c .before .before
 
 abbrev inside : tie.Else2 → tie.Else1
 inside c = c .before .before .before
@@ -58,7 +61,7 @@ returns : tie.Need-returns
 unfolding decide decideRecord
 returns c =
     let a = lent (c .before) .args in
-    λ m held. (sym (ap (decideRecord m) (none-at (a .at) (a .log .now) (c .if1 .taken) .decoded)), tt)
+    λ m rule held. (sym (ap (decideRecord m) (none-at (a .at) (a .log .now) (c .if1 .taken) .decoded)), tt)
 
 shared-slice-read-kind : tie.Need-shared-slice-read-kind
 shared-slice-read-kind c = search needs
@@ -75,71 +78,99 @@ returns-2 c =
     let e = c .before .before .before in
     let a = start e .args in
     let short : length (a .log .now) - a .at < recordSize (getD (a .log .now) (a .at) 0) = omega (arith, c .before .record-size .ensures, c .if2 .taken) in
-    λ m held. (sym (ap (decideRecord m) (cut-at (a .at) (a .log .now) (e .if1 .left) short .decoded)), tt)
+    λ m rule held. (sym (ap (decideRecord m) (cut-at (a .at) (a .log .now) (e .if1 .left) short .decoded)), tt)
 
 decide-member-requires : tie.Need-decide-member-requires
 unfolding recordSize sizeOf kindOf
 decide-member-requires c κs =
-    let e = c .before .before .before in
-    (start (inside e) .pre .ids-long, omega (arith, fits e, ap recordSize (c .before .before .match .keys1), inside e .if1 .left))
+    let e = whole (c .before) in
+    (start (inside e) .pre .ids-long, omega (arith, fits e, ap recordSize (c .match .keys1), inside e .if1 .left))
 
 decide-checkpoint-requires : tie.Need-decide-checkpoint-requires
 unfolding recordSize sizeOf kindOf
 decide-checkpoint-requires c κs =
-    let e = c .before in
+    let e = whole (c .before) in
     let fit = start (inside e) .pre in
     ((fit .names-long, fit .checkpoints-fit, omega (arith, fits e, ap recordSize (c .match .keys2), inside e .if1 .left)), fit .low)
 
 decide-vote-requires : tie.Need-decide-vote-requires
 unfolding recordSize sizeOf kindOf
 decide-vote-requires c κs =
-    let e = c .before in
+    let e = whole (c .before) in
     (start (inside e) .pre, omega (arith, fits e, ap recordSize (c .match .keys3), inside e .if1 .left))
+
+decide-quorum-requires : tie.Need-decide-quorum-requires
+unfolding recordSize sizeOf kindOf
+decide-quorum-requires c κs =
+    let e = whole (c .before) in
+    omega (arith, fits e, ap recordSize (c .match .keys4), inside e .if1 .left)
 
 decide-bundle-requires : tie.Need-decide-bundle-requires
 unfolding recordSize sizeOf kindOf
 decide-bundle-requires c κs =
-    let e = c .before in
-    let fit = start (inside e) .pre in
-    (fit .names-long, fit .checkpoints-fit, fit .falling, omega (arith, fits e, ap recordSize (c .match .keys4), inside e .if1 .left))
+    let e = whole (c .before) in
+    let fit = start (inside e) .pre in (
+      fit .names-long,
+      fit .checkpoints-fit,
+      fit .falling,
+      omega (arith, fits e, ap recordSize (c .match .keys5), inside e .if1 .left),
+    )
 
 returns-3 : tie.Need-returns-3
 unfolding decideRecord decodeAs kindOf
 returns-3 c =
-    λ m held.
-    let k = c .before .before .before in
-    alone (k .before) m (c .decide-member .result) _ (ap kindOf (k .match .keys1)) (c .decide-member .ensures m (members-fixed held) (held .members-held), refl)
+    λ m rule held.
+    let k = c .before in
+    alone (whole (k .before)) m (c .decide-member .result) _ (ap kindOf (k .match .keys1))
+    (c .decide-member .ensures m (members-fixed held) (held .members-held), refl)
 
 returns-4 : tie.Need-returns-4
 unfolding decideRecord decodeAs kindOf
 returns-4 c =
-    λ m held.
+    λ m rule held.
     let k = c .before in
-    alone (k .before) m (c .decide-checkpoint .result) _ (ap kindOf (k .match .keys2)) (c .decide-checkpoint .ensures m (held .names-held) (held .heights-held), refl)
+    alone (whole (k .before)) m (c .decide-checkpoint .result) _ (ap kindOf (k .match .keys2))
+    (c .decide-checkpoint .ensures m (held .names-held) (held .heights-held), refl)
 
 returns-5 : tie.Need-returns-5
 unfolding decideRecord decodeAs kindOf
-returns-5 c = λ m held. let k = c .before in alone (k .before) m (c .decide-vote .result) _ (ap kindOf (k .match .keys3)) (c .decide-vote .ensures m held, refl)
+returns-5 c =
+    λ m rule held.
+    let k = c .before in
+    alone (whole (k .before)) m (c .decide-vote .result) _ (ap kindOf (k .match .keys3))
+    (c .decide-vote .ensures m held, refl)
 
 returns-6 : tie.Need-returns-6
 unfolding decideRecord decodeAs kindOf
 returns-6 c =
-    λ m held.
-    let k = c .before in (
-      c .decide-bundle .ensures .0 m (held .members-held .count) (held .names-held) (held .heights-held) (held .ancestors-held) ∙ by-kind (k .before) m (ap kindOf (k .match .keys4)),
-      c .decide-bundle .ensures .1,
-    )
+    λ m rule held.
+    let k = c .before in
+    alone (whole (k .before)) m (c .decide-quorum .result) _ (ap kindOf (k .match .keys4))
+    (c .decide-quorum .ensures m (members-fixed held) rule, refl)
 
 returns-7 : tie.Need-returns-7
 unfolding decideRecord decodeAs kindOf
-returns-7 c = λ m held. (⊎-elim (λ e. by-kind (c .before) m (ap kindOf e)) (λ e. by-kind (c .before) m (ap kindOf e)) (c .match .keys5), tt)
+returns-7 c =
+    λ m rule held.
+    let k = c .before in (
+      c .decide-bundle .ensures .0 m (held .members-held .count) (held .names-held) (held .heights-held)
+          (held .ancestors-held)
+          ∙ by-kind (whole (k .before)) m (ap kindOf (k .match .keys5)),
+      c .decide-bundle .ensures .1,
+    )
 
 returns-8 : tie.Need-returns-8
+unfolding decideRecord decodeAs kindOf
+returns-8 c = λ m rule held. (by-kind (whole (c .before)) m (ap kindOf (c .match .keys6)), tt)
+
+returns-9 : tie.Need-returns-9
 unfolding decideRecord decodeAs
-returns-8 c =
-    λ m held.
+returns-9 c =
+    λ m rule held.
     let none = c .match .rest .0 in
-    (by-kind (c .before) m (other-kind (kind (c .before)) (none .0 .0 .0 .1) (none .0 .0 .1) (none .0 .1) (none .1)), tt)
+    let first = none .0 .0 in
+    let e = whole (c .before) in
+    (by-kind e m (other-kind (kind e) (first .0 .0 .1) (first .0 .1) (first .1) (none .0 .1) (none .1)), tt)
 
 pub decide-record-spec : {M : Type 1} → statement M
 decide-record-spec =
@@ -153,10 +184,12 @@ decide-record-spec =
     decide-member-requires
     decide-checkpoint-requires
     decide-vote-requires
+    decide-quorum-requires
     decide-bundle-requires
     returns-3
     returns-4
     returns-5
     returns-6
     returns-7
-    returns-8)
+    returns-8
+    returns-9)

@@ -35,6 +35,9 @@ enum-told-4 c = search needs
 enum-known-d-2 : tie.Need-enum-known-d-2
 enum-known-d-2 c = search needs
 
+enum-told-5 : tie.Need-enum-told-5
+enum-told-5 c = search needs
+
 returns : tie.Need-returns
 unfolding single brief
 returns c = λ m n s fit. sym (ap (says m s) (c .enum-told .given .1))
@@ -61,6 +64,10 @@ returns-6 c =
     let e = c .before .d2 .given .1 in
     ap (λ (k : ℕ). answer (manyVotes k)) (subst (BitsFit n s) e fit .number) ∙ sym (bundle-number m _ _) ∙ sym (ap (says m s) e)
 
+returns-7 : tie.Need-returns-7
+unfolding single brief
+returns-7 c = λ m n s fit. sym (ap (says m s) (c .enum-told5 .given .1))
+
 pub outcome-of-spec : {M : Type 1} → statement M
 outcome-of-spec =
     tie.close
@@ -71,9 +78,11 @@ outcome-of-spec =
     enum-told-3
     enum-told-4
     enum-known-d-2
+    enum-told-5
     returns
     returns-2
     returns-3
     returns-4
     returns-5
-    returns-6)
+    returns-6
+    returns-7)

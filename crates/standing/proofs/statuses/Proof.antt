@@ -4,17 +4,17 @@ use Prim.Native.Nat.{_-_}
 use native.Mathlib.Omega.{arith}
 use mathlib.Core.Path.{refl}
 use borrow.Author.Needs.{needs}
-use Rattle.tally.proofs.Ready.{ready-bonds, ready-quota}
+use Rattle.tally.proofs.Ready.{ready-bonds, ready-bar}
 use Rattle.standing.proofs.Turns.{Turn, turn-first, turn-walk, turn-parent, turn-more, turn-last}
 use Rattle.standing.proofs.statuses.Statement.{statement}
 use Rattle.standing.proofs.statuses.Tie as tie
 
 abbrev Inv-loop : tie.InvT-loop
-Inv-loop w members places parents who from head next quota justified₀ finalizing₀ t₀ justified finalizing t =
-    Turn w (record { who = who; from = from; head = head; next = next; quota = quota }) justified finalizing t
+Inv-loop w members places parents who from head next bar justified₀ finalizing₀ t₀ justified finalizing t =
+    Turn w (record { who = who; from = from; head = head; next = next; bar = bar }) justified finalizing t
 
 abbrev μ-loop : tie.MeasureT-loop
-μ-loop w members places parents who from head next quota justified₀ finalizing₀ t₀ justified finalizing t =
+μ-loop w members places parents who from head next bar justified₀ finalizing₀ t₀ justified finalizing t =
     places - t
 
 -- a turn's stations: where the votes for t are gathered, and where it is known whether t is reached
@@ -77,7 +77,7 @@ slice-aggregate-reaches-3 c = search needs
 
 reaches-requires : tie.Need-reaches-requires Inv-loop μ-loop
 reaches-requires c κs =
-    (omega arith, omega arith, omega arith, search (needs, ready-bonds), search (needs, ready-quota))
+    (omega arith, omega arith, omega arith, search (needs, ready-bonds), search (needs, ready-bar))
 
 array-write-justified-2 : tie.Need-array-write-justified-2 Inv-loop μ-loop
 array-write-justified-2 c = omega arith
@@ -107,7 +107,7 @@ array-read-finalizing : tie.Need-array-read-finalizing Inv-loop μ-loop
 array-read-finalizing c = search (needs, turn-parent)
 
 carries-requires : tie.Need-carries-requires Inv-loop μ-loop
-carries-requires c κs = search (needs, ready-bonds, ready-quota)
+carries-requires c κs = search (needs, ready-bonds, ready-bar)
 
 array-write-finalizing-2 : tie.Need-array-write-finalizing-2 Inv-loop μ-loop
 array-write-finalizing-2 c = search (needs, turn-parent)

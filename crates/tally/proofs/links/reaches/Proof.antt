@@ -12,23 +12,23 @@ use Rattle.model.specs.Lists.{anyBelow}
 use Rattle.model.proofs.Lists.{found-below, both}
 use Rattle.search.proofs.Below.{any-none, any-more}
 use Rattle.tally.specs.declared.voters.Voters.{Voters}
-use Rattle.tally.specs.declared.voters.Quota.{Quota}
+use Rattle.tally.specs.declared.voters.Bar.{Bar}
 use Rattle.tally.specs.Chains.{votersAt}
 use Rattle.tally.specs.Weights.{carried}
 use Rattle.tally.proofs.links.reaches.Statement.{statement}
 use Rattle.tally.proofs.links.reaches.Tie as tie
 
 -- a source whose link leads on
-abbrev leads : List Bool → List ℕ → ℕ → Quota → (ℕ → Voters) → ℕ → Bool
-leads justified bonds members quota tally k =
-    getD justified k false && carried bonds members quota (tally k)
+abbrev leads : List Bool → List ℕ → ℕ → Bar → (ℕ → Voters) → ℕ → Bool
+leads justified bonds members bar tally k =
+    getD justified k false && carried bonds members bar (tally k)
 
 abbrev Inv-loop : tie.InvT-loop
-Inv-loop lo hi justified bonds members quota end s₀ s =
-    (s ≤ end) × (false ≡ anyBelow s (leads justified bonds members quota (votersAt lo hi)))
+Inv-loop lo hi justified bonds members bar end s₀ s =
+    (s ≤ end) × (false ≡ anyBelow s (leads justified bonds members bar (votersAt lo hi)))
 
 abbrev μ-loop : tie.MeasureT-loop
-μ-loop lo hi justified bonds members quota end s₀ s = end - s
+μ-loop lo hi justified bonds members bar end s₀ s = end - s
 
 -- a round's start, and the sources that lead on there
 abbrev start : tie.In-loop Inv-loop μ-loop → tie.Start Inv-loop μ-loop
@@ -36,7 +36,7 @@ start r = r .before .before .before .before .before .before .before
 
 abbrev leading : tie.In-loop Inv-loop μ-loop → ℕ → Bool
 leading r =
-    let a = start r .args in leads (a .justified .now) (a .bonds .now) (a .members) (a .quota)
+    let a = start r .args in leads (a .justified .now) (a .bonds .now) (a .members) (a .bar)
     (votersAt (a .lo .now) (a .hi .now))
 
 cast-end : tie.Need-cast-end Inv-loop μ-loop
