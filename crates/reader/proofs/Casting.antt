@@ -23,7 +23,8 @@ use Rattle.state.specs.declared.Witness.{Witness}
 use Rattle.state.proofs.Entries.{count-members, count-votes, member-is}
 use Rattle.state.proofs.Kept.{Kept, changes-kept, store-both}
 use Rattle.bits.proofs.SetPlaces.{setBelow, one-more, none-more}
-use Rattle.rules.specs.Decision.{castVote, castEach}
+use Rattle.ballots.specs.Ballot.{castVote}
+use Rattle.rules.specs.Decision.{castEach}
 use Rattle.rules.proofs.Bundled.{afterEach, each-more, each-fits, each-members, each-number}
 use Rattle.reader.specs.Entries.{later, marked, rowsOf, entriesOf}
 use Rattle.reader.proofs.Entries.{Written, write-one, marked-more}

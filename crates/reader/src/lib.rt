@@ -1,7 +1,7 @@
 // Reading a log on: several records in one call.
+use ballots::votes::Ballot;
 use model::MAX_MEMBERS;
 use rules::Decision;
-use rules::votes::Ballot;
 use state::Counts;
 use state::Numbers;
 use state::Outcome;
@@ -13,7 +13,7 @@ ghost use lib.ListN.{length};
 ghost use Rattle.state.specs.Sound.{Sound};
 ghost use Rattle.model.specs.Limits.{memberLimit};
 ghost use Rattle.state.specs.Reading.{outcomeOf, rowOf, padded};
-ghost use Rattle.rules.specs.Ballot.{changeOf};
+ghost use Rattle.ballots.specs.Ballot.{changeOf};
 ghost use Rattle.reader.specs.Entries.{later, votesIn, lastRows};
 ghost use Rattle.reader.specs.Many.{readMany, endOf, endedTold, IsBatch};
 
@@ -156,7 +156,7 @@ pub fn read_many(w: Witness, log: &[u8], at: usize, limit: u64, rows: &mut [u8])
                 while p < MAX_MEMBERS {
                     if bits::is_set(log, next + 1, p) {
                         let k = held.vote_count;
-                        let vote = rules::votes::decide_cast(
+                        let vote = ballots::votes::decide_cast(
                             link,
                             &keys,
                             &heads,

@@ -19,7 +19,8 @@ use Rattle.model.proofs.Bundle.{each-member}
 use Rattle.model.proofs.Fits.{FitAll, no-change, one-change, append-both, fit-both}
 use Rattle.model.proofs.Lists.{found-any, any-first, all-map}
 use Rattle.state.specs.Reading.{manyVotes, brief}
-use Rattle.rules.specs.Decision.{castVote, castEach, decisionOf, BitsFit}
+use Rattle.ballots.specs.Ballot.{castVote}
+use Rattle.rules.specs.Decision.{castEach, decisionOf, BitsFit}
 use Rattle.rules.specs.declared.Decision.{Decision as Decides}
 use Rattle.rules.specs.declared.Decision.the-variants.{Nothing, Refuse, Member, Checkpoint, Vote, Bundle, Quorum}
 

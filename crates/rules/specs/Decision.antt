@@ -5,23 +5,19 @@ use mathlib.Core.List.{List, [], _∷_}
 use mathlib.Core.Bool.{false}
 use lib.Dec.{leb}
 use lib.ListN.{length}
-use Rattle.model.specs.Answer.{Answer, refused, answer, andThen}
+use Rattle.model.specs.Answer.{Answer, refused, answer}
 use Rattle.model.specs.Bits.{setPlaces}
 use Rattle.model.specs.Bytes.{part}
 use Rattle.model.specs.Change.{Decision as Decided, addMember, addCheckpoint, addVote, giveQuota, single, decided}
 use Rattle.model.specs.Change.{together, nothingRead}
-use Rattle.model.specs.Decide.{cast, room, bundleIds}
+use Rattle.model.specs.Decide.{bundleIds}
 use Rattle.model.specs.Limits.{memberLimit}
 use Rattle.model.specs.Lists.{any}
 use Rattle.model.specs.Model.{Model, Link, voteFor}
 use Rattle.model.specs.Refusals.{refusalNumber}
-use Rattle.rules.specs.Ballot.{linkAnswerOf}
+use Rattle.ballots.specs.Ballot.{linkAnswerOf, castVote}
 use Rattle.rules.specs.declared.Decision.{Decision}
 use Rattle.rules.specs.declared.Decision.the-variants.{Nothing, Refuse, Member, Checkpoint, Vote, Bundle, Quorum}
-
--- rows 35 and 36, on a held member's vote for a link that rows 31 to 34 passed or refused
-unfoldable pub castVote : Model → Answer Link → ℕ → Decided
-castVote m l id = single (andThen (andThen l (cast m id)) (room m))
 
 -- the votes of the members with these ids, each meeting what the last one left
 unfoldable pub castEach : Model → Answer Link → List ℕ → List Decided

@@ -1,6 +1,6 @@
 // What is decided on a bundle of votes.
 use crate::Decision;
-use crate::links::link_of;
+use ballots::links::link_of;
 use model::Height;
 use model::MAX_CHECKPOINTS;
 use model::Place;

@@ -1,5 +1,6 @@
-// What the rows of document 01, and of the change requests, decide on a record.
-use links::LinkAnswer;
+// What the rows of document 01, and of the change requests, decide on a record. What they decide on a link and on one
+// vote for it is in crate `ballots`.
+use ballots::links::LinkAnswer;
 use model::Height;
 use model::MAX_CHECKPOINTS;
 use model::Place;
@@ -17,12 +18,11 @@ ghost use Rattle.model.specs.Model.{Model};
 ghost use Rattle.state.specs.Reading.{outcomeOf, brief};
 ghost use Rattle.state.specs.State.{ruleOf, quotaIn};
 ghost use Rattle.state.specs.Tables.{Held};
+ghost use Rattle.ballots.specs.Fit.{Fit};
 ghost use Rattle.rules.specs.Decision.{decisionOf, BitsFit};
-ghost use Rattle.rules.specs.Fit.{Fit};
 
 pub mod bundles;
 pub mod checkpoints;
-pub mod links;
 pub mod members;
 pub mod quorums;
 pub mod votes;

@@ -21,11 +21,11 @@ use Rattle.model.specs.Model.{Link, voteFor}
 use Rattle.model.specs.declared.Place.{Place}
 use Rattle.model.proofs.Fits.{Fits, FitAll}
 use Rattle.model.proofs.Lists.{and-left, and-right, both, clash, not-so}
-use Rattle.rules.specs.Ballot.{linkAnswerOf, changeOf}
-use Rattle.rules.specs.Decision.{castVote, castEach, decisionOf, Bits, BitsFit}
+use Rattle.ballots.specs.Ballot.{linkAnswerOf, changeOf, castVote}
+use Rattle.ballots.specs.declared.votes.Ballot.{Ballot}
+use Rattle.ballots.specs.declared.votes.Ballot.the-variants.{Cast}
+use Rattle.rules.specs.Decision.{castEach, decisionOf, Bits, BitsFit}
 use Rattle.rules.specs.declared.Decision.{Decision}
-use Rattle.rules.specs.declared.votes.Ballot.{Ballot}
-use Rattle.rules.specs.declared.votes.Ballot.the-variants.{Cast}
 use Rattle.rules.proofs.Bundled.{cast-fits}
 use Rattle.state.specs.Reading.{outcomeOf, rowOf, brief}
 use Rattle.state.specs.Sound.{Sound}

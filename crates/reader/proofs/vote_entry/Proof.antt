@@ -2,7 +2,7 @@
 use mathlib.Core.Path.{sym, ap, _∙_}
 use mathlib.Core.Bool.{Bool, cond}
 use borrow.Author.Needs.{needs}
-use Rattle.rules.specs.Ballot.{changeOf}
+use Rattle.ballots.specs.Ballot.{changeOf}
 use Rattle.state.specs.Reading.{rowOf}
 use Rattle.reader.specs.Entries.{later}
 use Rattle.reader.proofs.vote_entry.Statement.{statement}

@@ -8,7 +8,7 @@ use Rattle.model.specs.Change.{single}
 use Rattle.model.specs.Decide.{room, decideVote}
 use Rattle.model.specs.Model.{Model}
 use Rattle.state.specs.Tables.{Held}
-use Rattle.rules.specs.Ballot.{changeOf}
+use Rattle.ballots.specs.Ballot.{changeOf}
 use Rattle.rules.proofs.votes.decide_vote.Statement.{statement}
 use Rattle.rules.proofs.votes.decide_vote.Tie as tie
 

@@ -1,4 +1,4 @@
--- `rules::links::check_link` meets its contract: its tests are rows 33 and 34, in their order. Assumes nothing.
+-- `ballots::links::check_link` meets its contract: its tests are rows 33 and 34, in their order. Assumes nothing.
 use mathlib.Core.Path.{_≡_, refl, sym, _∙_}
 use borrow.Author.Needs.{needs}
 use borrow.Author.Tests.{not-true, not-false}
@@ -7,9 +7,9 @@ use Rattle.model.specs.Decide.{heightsAgree}
 use Rattle.model.specs.Model.{Model, Link, link}
 use Rattle.model.specs.Tree.{ancestor?}
 use Rattle.state.specs.Tables.{HeightsHeld, AncestorsHeld}
-use Rattle.rules.proofs.Decided.{between-rows, heights-are}
-use Rattle.rules.proofs.links.check_link.Statement.{statement}
-use Rattle.rules.proofs.links.check_link.Tie as tie
+use Rattle.ballots.proofs.Linked.{between-rows, heights-are}
+use Rattle.ballots.proofs.links.check_link.Statement.{statement}
+use Rattle.ballots.proofs.links.check_link.Tie as tie
 
 -- stations: the test of the heights, and of the ancestor
 

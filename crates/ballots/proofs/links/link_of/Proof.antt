@@ -1,4 +1,4 @@
--- `rules::links::link_of` meets its contract: rows 31 and 32 by `find_endpoints`, 33 and 34 by `check_link`. Assumes
+-- `ballots::links::link_of` meets its contract: rows 31 and 32 by `find_endpoints`, 33 and 34 by `check_link`. Assumes
 -- nothing.
 use Prim.Native.Nat.{ℕ, _+_}
 use mathlib.Core.Path.{_≡_, sym, ap, ap₂, _∙_, subst}
@@ -8,10 +8,10 @@ use Rattle.model.specs.Bytes.{part}
 use Rattle.model.specs.Decide.{linkBetween, linkOf}
 use Rattle.model.specs.Model.{Model, Link}
 use Rattle.state.specs.Tables.{NamesHeld}
-use Rattle.rules.specs.Ballot.{linkAnswerOf, Within}
-use Rattle.rules.specs.declared.links.LinkAnswer.{LinkAnswer}
-use Rattle.rules.proofs.links.link_of.Statement.{statement}
-use Rattle.rules.proofs.links.link_of.Tie as tie
+use Rattle.ballots.specs.Ballot.{linkAnswerOf, Within}
+use Rattle.ballots.specs.declared.links.LinkAnswer.{LinkAnswer}
+use Rattle.ballots.proofs.links.link_of.Statement.{statement}
+use Rattle.ballots.proofs.links.link_of.Tie as tie
 
 -- stations: the search for the names, and the case of what it found
 

@@ -1,4 +1,4 @@
--- `rules::votes::room` meets its contract: row 36, on a vote that is cast. Assumes nothing.
+-- `ballots::votes::room` meets its contract: row 36, on a vote that is cast. Assumes nothing.
 use Prim.Native.Nat.{ℕ}
 use mathlib.Core.Path.{_≡_, sym, ap, _∙_}
 use mathlib.Core.Bool.{Bool}
@@ -11,10 +11,10 @@ use Rattle.model.specs.Change.{Change, addVote}
 use Rattle.model.specs.Decide.{room}
 use Rattle.model.specs.Limits.{voteLimit}
 use Rattle.model.specs.Model.{Model, Vote}
-use Rattle.rules.specs.Ballot.{ballotOf}
-use Rattle.rules.specs.declared.votes.Ballot.{Ballot}
-use Rattle.rules.proofs.votes.room.Statement.{statement}
-use Rattle.rules.proofs.votes.room.Tie as tie
+use Rattle.ballots.specs.Ballot.{ballotOf}
+use Rattle.ballots.specs.declared.votes.Ballot.{Ballot}
+use Rattle.ballots.proofs.votes.room.Statement.{statement}
+use Rattle.ballots.proofs.votes.room.Tie as tie
 
 -- row 36 on what the rows before made of the vote
 abbrev later : Model → Ballot → Answer Change

@@ -1,4 +1,4 @@
--- `rules::links::find_endpoints` meets its contract: its tests are rows 31 and 32, in their order. Assumes nothing.
+-- `ballots::links::find_endpoints` meets its contract: its tests are rows 31 and 32, in their order. Assumes nothing.
 use Prim.Native.Nat.{_+_}
 use mathlib.Core.Path.{_≡_, refl, sym, _∙_}
 use borrow.Author.Needs.{needs}
@@ -8,9 +8,9 @@ use Rattle.model.specs.Answer.{row, andThen}
 use Rattle.model.specs.Bytes.{part}
 use Rattle.model.specs.Model.{Model, nameHeld}
 use Rattle.state.specs.Tables.{NamesHeld}
-use Rattle.rules.proofs.Decided.{link-rows, held-at, found-at}
-use Rattle.rules.proofs.links.find_endpoints.Statement.{statement}
-use Rattle.rules.proofs.links.find_endpoints.Tie as tie
+use Rattle.ballots.proofs.Linked.{link-rows, held-at, found-at}
+use Rattle.ballots.proofs.links.find_endpoints.Statement.{statement}
+use Rattle.ballots.proofs.links.find_endpoints.Tie as tie
 
 -- stations: the searches for the two names
 

@@ -15,7 +15,7 @@ ghost use Rattle.model.specs.Limits.{checkpointLimit};
 ghost use Rattle.model.specs.Model.{Model, link};
 ghost use Rattle.tables.specs.Places.{heightAt, Falling};
 ghost use Rattle.state.specs.Tables.{NamesHeld, HeightsHeld, AncestorsHeld};
-ghost use Rattle.rules.specs.Ballot.{linkAnswerOf, Within};
+ghost use Rattle.ballots.specs.Ballot.{linkAnswerOf, Within};
 
 // What rows 31 to 34, or the first of them, make of a link: one refuses it; or it is between these places.
 pub enum LinkAnswer {

@@ -1,5 +1,5 @@
--- `rules::votes::vote_of` meets its contract: row 30 by the search for the member, 31 to 34 by `link_of`, 35 by `cast`.
--- Assumes nothing.
+-- `ballots::votes::vote_of` meets its contract: row 30 by the search for the member, 31 to 34 by `link_of`, 35 by
+-- `cast`. Assumes nothing.
 use Prim.Native.Nat.{ℕ}
 use mathlib.Core.Path.{_≡_, sym, ap, ap₂, _∙_}
 use mathlib.Core.List.{List}
@@ -15,9 +15,9 @@ use Rattle.model.specs.Model.{Model, Link, idHeld}
 use Rattle.state.specs.Tables.{Held}
 use Rattle.state.proofs.Fields.{field-at}
 use Rattle.state.proofs.Held.{held-id}
-use Rattle.rules.proofs.Decided.{link-read}
-use Rattle.rules.proofs.votes.vote_of.Statement.{statement}
-use Rattle.rules.proofs.votes.vote_of.Tie as tie
+use Rattle.ballots.proofs.Linked.{link-read}
+use Rattle.ballots.proofs.votes.vote_of.Statement.{statement}
+use Rattle.ballots.proofs.votes.vote_of.Tie as tie
 
 -- stations: the member's search, and the link
 

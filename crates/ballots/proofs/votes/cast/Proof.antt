@@ -1,4 +1,4 @@
--- `rules::votes::cast` meets its contract: row 35, by the search for the vote. Assumes nothing.
+-- `ballots::votes::cast` meets its contract: row 35, by the search for the vote. Assumes nothing.
 use Prim.Native.Nat.{ℕ}
 use mathlib.Core.Path.{_≡_, sym, ap, _∙_}
 use mathlib.Core.Bool.{Bool}
@@ -10,10 +10,10 @@ use Rattle.model.specs.Decide.{cast}
 use Rattle.model.specs.Lists.{anyBelow}
 use Rattle.model.specs.Model.{Model, Vote, link, voteFor, voteHeld}
 use Rattle.state.specs.Tables.{KeysHeld}
-use Rattle.rules.specs.Ballot.{linkAnswerOf}
-use Rattle.rules.specs.declared.links.LinkAnswer.{LinkAnswer}
-use Rattle.rules.proofs.votes.cast.Statement.{statement}
-use Rattle.rules.proofs.votes.cast.Tie as tie
+use Rattle.ballots.specs.Ballot.{linkAnswerOf}
+use Rattle.ballots.specs.declared.links.LinkAnswer.{LinkAnswer}
+use Rattle.ballots.proofs.votes.cast.Statement.{statement}
+use Rattle.ballots.proofs.votes.cast.Tie as tie
 
 -- stations: the link between two places, and the search for the vote
 

@@ -1,12 +1,12 @@
--- `rules::votes::decide_cast` meets its contract: row 35 by `cast`, then 36 by `room`. Assumes nothing.
+-- `ballots::votes::decide_cast` meets its contract: row 35 by `cast`, then 36 by `room`. Assumes nothing.
 use mathlib.Core.Path.{ap, _∙_}
 use borrow.Author.Needs.{needs}
 use Rattle.model.specs.Answer.{andThen}
 use Rattle.model.specs.Change.{single}
 use Rattle.model.specs.Decide.{room}
-use Rattle.rules.specs.Decision.{castVote}
-use Rattle.rules.proofs.votes.decide_cast.Statement.{statement}
-use Rattle.rules.proofs.votes.decide_cast.Tie as tie
+use Rattle.ballots.specs.Ballot.{castVote}
+use Rattle.ballots.proofs.votes.decide_cast.Statement.{statement}
+use Rattle.ballots.proofs.votes.decide_cast.Tie as tie
 
 cast-requires : tie.Need-cast-requires
 cast-requires c κs = search needs
