@@ -259,7 +259,9 @@ pub fn list(w: &library::Witness, r: &reference::Witness, list: &[u8], tally: &m
 pub fn state(w: &library::Witness, log: &[u8], list: &[u8], random: &mut Random, tally: &mut Tally) -> Same {
     let sound = states::is_sound(w);
     tally.state(sound);
-    states::rule_alone(w).iter().for_each(|quota| tally.rule(*quota));
+    if let Some(quota) = states::rule_alone(w) {
+        tally.rule(quota);
+    }
     same("row 40", w.is_sound(), sound)?;
     if sound { sound_state(w, random, tally) } else { unsound_state(w, log, list, tally) }
 }

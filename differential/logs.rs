@@ -302,16 +302,12 @@ impl Maker {
         }
     }
 
-    // Members, with quorums before them or after them.
+    // Members, with quorums before them, between them or after them.
     fn members(&mut self, count: usize) {
-        let first = self.random.one_in(2);
-        if first {
-            self.quorums();
-        }
-        self.some_members(count);
-        if !first {
-            self.quorums();
-        }
+        let before = self.random.pick(&[0, count / 2, count]);
+        self.some_members(before);
+        self.quorums();
+        self.some_members(count - before);
     }
 
     fn some_members(&mut self, count: usize) {
@@ -440,10 +436,9 @@ impl Maker {
         }
     }
 
-    // A record that most likely is refused, or quorums, which by then most likely are.
+    // A record that most likely is refused; in the place of one now and then quorums, which come late here.
     fn odd_record(&mut self) {
         match self.random.below(20) {
-            19 => self.quorums(),
             0 => self.odd_member(),
             1 => {
                 let (name, parent) = (self.known_name(), self.known_name());
@@ -460,6 +455,7 @@ impl Maker {
             }
             4 => self.repeat_record(),
             5..=8 => self.odd_bundle(),
+            9 => self.quorums(),
             _ => self.odd_vote(),
         }
     }

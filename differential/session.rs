@@ -223,7 +223,7 @@ fn check_bundles() {
     assert_eq!(reading.outcomes[7..], expected);
 }
 
-// The session, with the bonds 1, 2, 1 and three quarters, a quorum given before that is refused and one after it.
+// The session, with the bonds 1, 2, 1 and three quarters; a quorum before that one is refused, and two after it.
 fn quorums() -> Vec<u8> {
     let mut log = header(b'r');
     for (p, q) in [(1u16, 2u16), (3, 4), (2, 3)] {

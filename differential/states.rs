@@ -25,7 +25,7 @@ fn rest_sound(w: &Witness) -> bool {
         && votes_sound(w)
 }
 
-// None is given where p and q are 0; what is given is permitted.
+// None is given where p and q are 0.
 fn is_given(w: &Witness) -> bool {
     (w.numbers.p, w.numbers.q) != (0, 0)
 }
@@ -34,6 +34,7 @@ fn given(w: &Witness) -> Quota {
     Quota { p: w.numbers.p.into(), q: w.numbers.q.into() }
 }
 
+// What is given is permitted.
 fn rule_sound(w: &Witness) -> bool {
     !is_given(w) || given(w).is_permitted()
 }

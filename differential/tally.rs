@@ -32,7 +32,7 @@ const BUNDLES: [&str; 5] = [
     "bundle of 128 votes",
 ];
 // Why p and q are not permitted, the first that applies.
-const WHY: [&str; 4] = ["p above q", "q not below 2p", "q of 0", "q above 1,000"];
+const WHY: [&str; 4] = ["q of 0", "p above q", "q not below 2p", "q above 1,000"];
 const GIVEN: [&str; 8] = [
     "justified by a given quorum",
     "final by a given quorum",
@@ -55,8 +55,7 @@ const PAPERS: [&str; 6] = [
 const ALREADY_GIVEN: &str = "a quorum already given";
 
 fn why(k: Quota) -> Option<&'static str> {
-    // q of 0 with a p above it is told as q of 0
-    let tests = [k.p > k.q && k.q > 0, k.q >= 2 * k.p && k.q > 0, k.q == 0, k.q > 1000];
+    let tests = [k.q == 0, k.p > k.q, k.q >= 2 * k.p, k.q > 1000];
     tests.iter().position(|t| *t).map(|i| WHY[i])
 }
 
@@ -112,9 +111,7 @@ impl Tally {
 
     // A state of which only the rule is not sound.
     pub fn rule(&mut self, quota: Quota) {
-        if let Some(reason) = why(quota) {
-            self.add(&why_unsound(reason));
-        }
+        self.add(&why_unsound(why(quota).expect("a quota that is not permitted")));
     }
 
     pub fn state(&mut self, sound: bool) {

@@ -604,9 +604,9 @@ def bundle_charge_logs():
 # ---- Two thirds.
 
 
-# The members with these bonds; the first `number` of them vote root to A.
-def first_voters(number, *bonds):
-    return log(members(*bonds), TREE, votes(range(1, number + 1), ROOT, A))
+# The members with these bonds, after a rule; the first `number` of them vote root to A.
+def first_voters(number, *bonds, rule=b""):
+    return log(rule, members(*bonds), TREE, votes(range(1, number + 1), ROOT, A))
 
 
 def bar_logs():
@@ -648,7 +648,7 @@ def row_63_logs():
     }
 
 
-# Two of three members vote for A, who carry it by two thirds, and not where a larger part was given.
+# Two of three members vote for A; they carry it by two thirds, and not where a larger part was given.
 def after_quorum(*pairs):
     return log(*[quorum(p, q) for p, q in pairs], SMALL, votes([1, 2], ROOT, A))
 
@@ -667,7 +667,7 @@ def row_64_logs():
         "row-64-q-1001": after_quorum((1001, 1001)),
         "row-64-q-1000-is-taken": after_quorum((1000, 1000)),
         "row-64-500-of-1000": after_quorum((500, 1000)),
-        "row-64-501-of-1000-is-taken": log(quorum(501, 1000), members(501, 499), TREE, vote(1, ROOT, A)),
+        "row-64-501-of-1000-is-taken": log(quorum(501, 1000), members(1003, 997), TREE, vote(1, ROOT, A)),
         "row-64-greatest-numbers": after_quorum((65535, 65535)),
         "row-64-low-bytes-of-what-is-permitted": after_quorum((0x0103, 0x0503), (0x0103, 0x0704)),
         "row-64-already-given": after_quorum(all_of, (2, 3)),
@@ -677,7 +677,7 @@ def row_64_logs():
     }
 
 
-def quorum_member_logs():
+def quorum_place_logs():
     return {
         "quorum-fixes-no-members": log(member(1), quorum(1, 1), member(2), member(3), TREE, votes([1, 2], ROOT, A)),
         "quorum-alone": log(quorum(3, 4)),
@@ -686,9 +686,8 @@ def quorum_member_logs():
     }
 
 
-# Members with these bonds; the first `number` of them vote root to A, by this quorum.
 def quorum_voters(p, q, number, *bonds):
-    return log(quorum(p, q), members(*bonds), TREE, votes(range(1, number + 1), ROOT, A))
+    return first_voters(number, *bonds, rule=quorum(p, q))
 
 
 def quorum_bar_logs():
@@ -720,8 +719,8 @@ def forked(p, q, *bonds):
     )
 
 
-# The share that is named where finals conflict is the least there can be: (2p - q) of q parts.
-def quorum_conflict_logs():
+# The share that is named where finals conflict is the least there can be: (2p - q) of q parts. And finals by bundles.
+def quorum_final_logs():
     everybody = [1, 2, 3]
     return {
         "quorum-conflict-by-three-quarters": forked(3, 4, 1, 2, 1),
@@ -980,9 +979,9 @@ GROUPS = [
     bar_logs,
     row_63_logs,
     row_64_logs,
-    quorum_member_logs,
+    quorum_place_logs,
     quorum_bar_logs,
-    quorum_conflict_logs,
+    quorum_final_logs,
     standing_logs,
     conflict_logs,
     session_logs,

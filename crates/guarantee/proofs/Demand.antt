@@ -138,7 +138,7 @@ demand-3 name long es bytes =
       answers = by-the-rules (witnessAfter (emptyWitness name) es) (after (start name) es) h;
       share = accountable-safety name es bytes;
       standard-rule = standard-kept name es;
-      third = λ none-given finals.
+      standard-third = λ none-given finals.
           accountable-safety name es bytes finals .third
           (standard-most (after (start name) es) (standard-kept name es none-given));
     }

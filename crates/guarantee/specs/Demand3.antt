@@ -43,7 +43,7 @@ pub record Guarantee (name : List ℕ) (es : List Event) (w : Witness) (b : Mode
   pub share : ConflictingFinals b → ShareNamed b
   -- "Without the record it is 2 and 3", and our list "names at least a third of all bonds": 3 × sum ≥ total
   pub standard-rule : All NoQuorum es → b .rule ≡ standard
-  pub third : All NoQuorum es → (finals : ConflictingFinals b) → total (b .members) ≤ 3 * share finals .named
+  pub standard-third : All NoQuorum es → (finals : ConflictingFinals b) → total (b .members) ≤ 3 * share finals .named
 
 -- for every root name and every list of readings of bytes
 abbrev pub Demand3 : Type 0

@@ -340,7 +340,7 @@ pub record PaperCases : Type 0 where
   paper-fits : writeText (paper session) (replicate 3250 0) ≡ answer 3250
   paper-too-long : writeText (paper session) (replicate 3249 0) ≡ refused 60
   -- 48 checkpoints (`filled` has one more than its first number) fill a page, and the 49th begins the second, whose
-  -- missing rows are blanks; of a row that is not missing its place stands for its text, which takes long to compute
+  -- missing rows are blanks; the decimal place stands in for a row, whose text takes long to compute
   one-page : pages (filled 47 0) ≡ 1
   two-pages : pages (filled 48 0) ≡ 2
   second-page :

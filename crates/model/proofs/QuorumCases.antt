@@ -75,7 +75,7 @@ judged m = (conflicting? m, check m (ourList m))
 abbrev by : ℕ → ℕ → Bool → Answer Support
 by number bonds enough = answer (record { number = number; bonds = bonds; yes? = enough })
 
--- the model with a vote, and with the root alone: no run reaches it, it only meets row 63
+-- the model with a vote too: where the root is the only checkpoint, which no run leaves so, the vote alone fixes members
 abbrev votesAlone : Model → Model
 votesAlone m = withVotes m (voteFor 0 0 0 ∷ [])
 
@@ -103,17 +103,17 @@ pub record QuorumCases : Type 0 where
   one-by-three-fifths : supportAt (voted (giving 3 5) (1 ∷ [])) 0 1 ≡ by 1 1 false
   two-by-all : statusAt (voted (giving 7 7) (1 ∷ 2 ∷ [])) 1 ≡ answer Plain
   three-by-all : statusAt (voted (giving 7 7) (1 ∷ 2 ∷ 3 ∷ [])) 1 ≡ answer Justified
-  -- two conflicting finals, and the share that is named: (2p - q) of q parts and no bond more; with bonds just beside
-  -- these, nothing conflicts
+  -- two conflicting finals, and what is named: (2p - q) of q parts and no bond more; beside them, bonds of which one
+  -- pair of members or both are no quorum
   forked-by-the-standard : judged (forked [] 1 1 1) ≡ (true, answer 1)
   forked-by-three-quarters : judged (forked (giving 3 4) 1 2 1) ≡ (true, answer 2)
   not-forked-by-three-quarters : judged (forked (giving 3 4) 1 1 1) ≡ (false, answer 1)
   forked-by-three-fifths : judged (forked (giving 3 5) 2 1 2) ≡ (true, answer 1)
   not-forked-by-three-fifths : judged (forked (giving 3 5) 3 1 3) ≡ (false, answer 1)
   forked-by-just-most : judged (forked (giving 501 1000) 499 2 499) ≡ (true, answer 2)
+  not-forked-by-just-most : judged (forked (giving 501 1000) 499 1 500) ≡ (false, answer 1)
   forked-by-all : judged (forkedBy (giving 1 1 ++ threeMembers) (1 ∷ 2 ∷ 3 ∷ []) (3 ∷ 2 ∷ 1 ∷ [])) ≡ (true, answer 3)
   not-forked-by-all : judged (forked (giving 1 1) 1 1000000000000 1) ≡ (false, answer 1000000000000)
-  not-forked-by-just-most : judged (forked (giving 501 1000) 499 1 500) ≡ (false, answer 1)
   -- a log with the record: its report
   quorum-report :
       report (headerBytes ++ threeMembers ++ giving 3 4 ++ giving 2 3 ++ checkpoint "A" "R" ++ vote 1 "R" 0 "A" 1
@@ -209,9 +209,9 @@ quorum-cases =
       forked-by-three-fifths = refl;
       not-forked-by-three-fifths = refl;
       forked-by-just-most = refl;
+      not-forked-by-just-most = refl;
       forked-by-all = refl;
       not-forked-by-all = refl;
-      not-forked-by-just-most = refl;
       quorum-report = refl;
       row-5-quorum = refl;
       row-5-quorum-kind = refl;

@@ -1,8 +1,8 @@
--- Which quotas are permitted: the test computes it, the standard one is, and whoever passes row 64 is.
-use Prim.Native.Nat.{ℕ, _*_, _<_}
+-- Which quotas are permitted: the test computes it; the standard one is, and so is every one that row 64 lets pass.
+use Prim.Native.Nat.{_*_, _<_}
 use native.Mathlib.Omega.{arith}
 use mathlib.Core.Path.{_≡_}
-use mathlib.Core.Bool.{true, false, _&&_, not}
+use mathlib.Core.Bool.{true, false, not}
 use borrow.Author.Tests.{ltb-true, lt-ltb, leb-true, le-leb, not-false}
 use lib.Dec.{ltb, leb}
 use Rattle.model.specs.Decide.{badQuorum}
@@ -10,7 +10,7 @@ use Rattle.model.specs.Limits.{partLimit}
 use Rattle.model.specs.Model.{Model}
 use Rattle.model.specs.Rule.{standard, given?, quotaOf, Permitted, permitted?}
 use Rattle.model.specs.declared.Quota.{Quota}
-use Rattle.model.proofs.Lists.{Four, four, both, or-false-left}
+use Rattle.model.proofs.Lists.{four, both, or-false-left}
 
 pub permitted-true : (k : Quota) → permitted? k ≡ true → Permitted k
 unfolding permitted?

@@ -9,7 +9,6 @@ pub struct Place(pub u16);
 pub struct Height(pub u32);
 
 // What a quorum needs: p of q parts of all bonds.
-#[repr(C)]
 pub struct Quota {
     pub p: u16,
     pub q: u16,

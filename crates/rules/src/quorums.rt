@@ -33,6 +33,7 @@ pub fn decide_quorum(numbers: Numbers, fixed: bool, log: &[u8], at: usize) -> De
         p: wire::be16(log, at + 1),
         q: wire::be16(log, at + 3),
     };
+    // row 64, both halves
     if !is_permitted(quota) {
         return Decision::Refuse(Refusal::BadQuorum);
     }

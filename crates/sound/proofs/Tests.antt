@@ -10,7 +10,7 @@ use lib.Dec.{eqb, ltb, leb}
 use Rattle.model.specs.Limits.{bondLimit, memberLimit, checkpointLimit, voteLimit, rootHeightLimit}
 use Rattle.model.specs.Lists.{allBelow, pairBelow, sameBytes}
 use Rattle.model.specs.Model.{Checkpoint, Vote, quota, heightOf, parentOf, sameVote}
-use Rattle.model.specs.Rule.{quotaOf, permitted?}
+use Rattle.model.specs.Rule.{Rule, quotaOf, permitted?}
 use Rattle.model.specs.WellFormed.{counts?, members?, tree?, vote?, votes?, wellFormed?}
 use Rattle.model.specs.WellFormed.{bonds?, idTwice?, steps?, nameTwice?, voteTwice?}
 use Rattle.model.proofs.Lists.{and-left, and-right}
@@ -20,7 +20,7 @@ use Rattle.search.proofs.Pointwise.{all-same, pair-same}
 use Rattle.state.specs.Sound.{sound?}
 use Rattle.state.specs.State.{ruleOf, quotaIn, modelOf, voteIn}
 use Rattle.state.specs.declared.Witness.{Witness}
-use Rattle.state.proofs.Held.{held-id, members-held, ancestors-held}
+use Rattle.state.proofs.Held.{held-id, members-held, rule-held, ancestors-held}
 use Rattle.state.proofs.Entries.{count-members, count-checkpoints, count-votes, member-is, checkpoint-is, vote-is}
 use Rattle.sound.specs.Parts.{countsPass, membersPass, treePasses, votesPass}
 
@@ -76,8 +76,7 @@ module _ (w : Witness) where
   parts e₀ e₁ e₂ e₃ e₄ = sym (rw (e₀, e₁, e₂, e₃, e₄))
 
   pub rule-is : permitted? (quota (modelOf w)) ≡ permitted? (quotaOf (ruleOf (quotaIn (w .numbers))))
-  unfolding modelOf
-  rule-is = refl
+  rule-is = ap (λ (r : Rule). permitted? (quotaOf r)) (rule-held w)
 
   pub counts-are : counts? (modelOf w) ≡ countsPass (w .«member_count») (w .«checkpoint_count») (w .«vote_count»)
   unfolding counts?

@@ -4,7 +4,7 @@ use mathlib.Core.Path.{_≡_, refl}
 use mathlib.Core.Bool.{Bool, true, false, cond, _&&_, _||_, not, true≢false, false≢true}
 use borrow.Author.Tests.{ne-eqb}
 use lib.Dec.{eqb}
-use Rattle.model.specs.Rule.{Rule, standard, given, given?, quotaOf, Permitted, permitted?}
+use Rattle.model.specs.Rule.{standard, given, given?, quotaOf, Permitted, permitted?}
 use Rattle.model.specs.declared.Quota.{Quota}
 use Rattle.model.proofs.Rule.{part-positive, standard-permitted, true-permitted}
 use Rattle.state.specs.State.{ruleOf}

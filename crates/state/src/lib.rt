@@ -19,7 +19,8 @@ ghost use Rattle.state.specs.Reading.{IsBeginning};
 
 pub mod quotas;
 
-// The numbers beside the arrays: p and q of the quorum that a record gave, both 0 where none was given.
+// The numbers beside the arrays, in one struct that further numbers can join: p and q of the quorum that a record gave,
+// both 0 where none was given.
 #[repr(C)]
 pub struct Numbers {
     pub p: u16,
