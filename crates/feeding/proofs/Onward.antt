@@ -26,11 +26,11 @@ use Rattle.state.proofs.Kept.{reading-sound}
 use Rattle.model.proofs.Bytes.{drop-bytes}
 use Rattle.model.proofs.Lists.{all-append}
 use Rattle.model.proofs.Readings.{whole-goes-on}
-use Rattle.reader.specs.Entries.{rowsOf, entriesOf, entries}
+use Rattle.entries.specs.Entries.{rowsOf, entriesOf, entries}
 use Rattle.reader.specs.Many.{Ended, endedBy, Many, readMany, endOf, endedTold, IsBatch}
 use Rattle.reader.specs.declared.Batch.{Batch}
 use Rattle.reader.specs.declared.End.the-variants.{Spent, EndedBy}
-use Rattle.reader.proofs.Entries.{marked-length, entries-more}
+use Rattle.entries.proofs.Entries.{marked-length, entries-more}
 use Rattle.reader.proofs.Made.{length-inside, while-passed, Stops, Ends, many-ends, not-both, some-told}
 use Rattle.reader.proofs.Told.{told-rowed}
 use Rattle.text.specs.Put.{Put}

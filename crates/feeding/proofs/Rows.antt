@@ -16,8 +16,8 @@ use Rattle.model.specs.Lists.{All, none, each}
 use Rattle.model.specs.Report.{digits, decimal, newline, stops?, stoppedLine, refusedLine, bundleLines, outcomeLine, outcomeLines}
 use Rattle.model.proofs.Lists.{clash}
 use Rattle.state.specs.Reading.{rowOf}
-use Rattle.reader.specs.Entries.{later, marked, rowsOf, entriesOf, entries}
-use Rattle.reader.proofs.Entries.{marked-length}
+use Rattle.entries.specs.Entries.{later, marked, rowsOf, entriesOf, entries}
+use Rattle.entries.proofs.Entries.{marked-length}
 use Rattle.reader.proofs.Told.{Named, Rowed}
 use Rattle.text.specs.Put.{Put}
 use Rattle.text.proofs.Putting as Putting

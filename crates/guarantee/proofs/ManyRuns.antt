@@ -16,7 +16,7 @@ use Rattle.model.specs.Lists.{each}
 use Rattle.model.specs.Log.{recordLength}
 use Rattle.state.specs.State.{modelOf, stored}
 use Rattle.state.specs.declared.Witness.{Witness}
-use Rattle.reader.specs.Entries.{entriesOf}
+use Rattle.entries.specs.Entries.{entriesOf}
 use Rattle.reader.specs.Many.{Ended, spent, endedBy, Many, behind, nonePassed, readMany}
 use Rattle.state.specs.Reading.{brief}
 use Rattle.model.proofs.Bytes.{drop-bytes}

@@ -19,7 +19,7 @@ use Rattle.state.specs.Reading.{brief}
 use Rattle.state.specs.Sound.{Typed, sound?}
 use Rattle.state.specs.State.{emptyWitness, modelOf, stored}
 use Rattle.state.specs.declared.Witness.{Witness}
-use Rattle.reader.specs.Entries.{entries}
+use Rattle.entries.specs.Entries.{entries}
 use Rattle.reader.specs.Many.{spent, endedBy, Many, nonePassed}
 use Rattle.witness.specs.Calls.{eventCall, writeCall, writeBuffer}
 use Rattle.witness.specs.Readings.{manyCall}

@@ -84,7 +84,7 @@ pub fn read_record(w: Witness, log: &[u8], from: usize) -> Reading
     let last = r.last;
     Reading {
         outcome: reader::ended_by(end, last),
-        rows: reader::last_votes(&rows, r.used, last),
+        rows: entries::last_votes(&rows, r.used, last),
         next: r.next,
         witness,
     }

@@ -26,8 +26,8 @@ use Rattle.bits.proofs.SetPlaces.{setBelow, one-more, none-more}
 use Rattle.ballots.specs.Ballot.{castVote}
 use Rattle.rules.specs.Decision.{castEach}
 use Rattle.rules.proofs.Bundled.{afterEach, each-more, each-fits, each-members, each-number}
-use Rattle.reader.specs.Entries.{later, marked, rowsOf, entriesOf}
-use Rattle.reader.proofs.Entries.{Written, write-one, marked-more}
+use Rattle.entries.specs.Entries.{later, marked, rowsOf, entriesOf}
+use Rattle.entries.proofs.Entries.{Written, write-one, marked-more}
 use Rattle.reader.proofs.Searched.{Searched}
 
 module _ (w : Witness) (l : Answer Link) (bits : List ℕ) where

@@ -15,7 +15,7 @@ use Rattle.model.specs.Log.{kindOf, sizeOf, decodeAs, recordSize, recordLength,
 use Rattle.model.specs.Model.{memberIndex, idHeld, nameHeld, memberAt, placeOf}
 use Rattle.state.specs.Reading.{manyVotes, brief, rowOf, rowsOfVotes, padded}
 use Rattle.state.specs.State.{emptyWitness, modelOf, withMember, store, storeAll}
-use Rattle.reader.specs.Entries.{rowsOf, marked, entries, lastRows}
+use Rattle.entries.specs.Entries.{rowsOf, marked, entries, lastRows}
 use Rattle.reader.specs.Many.{spent, endedBy, Many, readMany}
 
 abbrev log : List ℕ

@@ -18,9 +18,9 @@ use Rattle.model.proofs.Log.{decode-elim}
 use Rattle.state.specs.State.{modelOf, storeAll, stored}
 use Rattle.state.specs.Reading.{Brief, brief}
 use Rattle.state.specs.declared.Witness.{Witness}
-use Rattle.reader.specs.Entries.{rowsOf, entriesOf, entries}
+use Rattle.entries.specs.Entries.{rowsOf, entriesOf, entries}
 use Rattle.reader.specs.Many.{spent, endedBy, Many, behind, nonePassed, readMany}
-use Rattle.reader.proofs.Entries.{marked-length, entries-more}
+use Rattle.entries.proofs.Entries.{marked-length, entries-more}
 use Rattle.reader.proofs.Told.{told-rowed}
 
 -- a record is within what is left of the log

@@ -22,11 +22,11 @@ use Rattle.state.specs.declared.Outcome.{Outcome}
 use Rattle.state.specs.declared.Outcome.the-variants.{Nothing}
 use Rattle.state.specs.declared.Witness.{Witness}
 use Rattle.state.proofs.Kept.{reading-sound}
-use Rattle.reader.specs.Entries.{entriesOf, entries}
+use Rattle.entries.specs.Entries.{entriesOf, entries}
 use Rattle.reader.specs.Many.{spent, endedBy, Many, behind, nonePassed, readMany, lastTold, endOf, IsBatch}
 use Rattle.reader.specs.declared.End.{End}
 use Rattle.reader.specs.declared.End.the-variants.{Spent, EndedBy}
-use Rattle.reader.proofs.Entries.{Written, written-length, entries-more}
+use Rattle.entries.proofs.Entries.{Written, written-length, entries-more}
 
 -- ---- what was told last
 

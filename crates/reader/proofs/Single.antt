@@ -17,7 +17,7 @@ use Rattle.state.specs.Reading.{outcomeOf, brief, rowsOfVotes, padded, IsReadin
 use Rattle.state.specs.State.{modelOf}
 use Rattle.state.specs.declared.Outcome.{Outcome}
 use Rattle.state.specs.declared.Witness.{Witness}
-use Rattle.reader.specs.Entries.{votesIn, lastRows}
+use Rattle.entries.specs.Entries.{votesIn, lastRows}
 use Rattle.reader.specs.Many.{Ended, Many, readMany, lastTold, endOf, endedTold, IsBatch}
 use Rattle.reader.specs.declared.Batch.{Batch}
 use Rattle.reader.proofs.Made.{stays}

@@ -21,7 +21,7 @@ use Rattle.model.proofs.Rows.{checkpoint-elim}
 use Rattle.model.proofs.Rows.{vote-elim, bundle-elim, quorum-elim}
 use Rattle.state.specs.Reading.{rowOf}
 use Rattle.bits.proofs.SetPlaces.{few-set}
-use Rattle.reader.specs.Entries.{rowsOf}
+use Rattle.entries.specs.Entries.{rowsOf}
 
 -- a refusal has a row's number, which is not 0
 abbrev pub Named : {A : Type 0} → Answer A → Type 0

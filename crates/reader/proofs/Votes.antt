@@ -15,10 +15,10 @@ use Rattle.state.specs.State.{modelOf}
 use Rattle.state.specs.declared.Outcome.{Outcome}
 use Rattle.state.specs.declared.Outcome.the-variants.{Nothing, Taken, Bundled, Refused}
 use Rattle.state.specs.declared.Witness.{Witness}
-use Rattle.reader.specs.Entries.{later, marked, rowsOf, entriesOf, entries, votesIn, lastRows}
+use Rattle.entries.specs.Entries.{later, marked, rowsOf, entriesOf, entries, votesIn, lastRows}
 use Rattle.reader.specs.Many.{readMany, lastTold, IsBatch}
 use Rattle.reader.specs.declared.Batch.{Batch}
-use Rattle.reader.proofs.Entries.{marked-length}
+use Rattle.entries.proofs.Entries.{marked-length}
 use Rattle.reader.proofs.Made.{while-passed}
 use Rattle.reader.proofs.Told.{Rowed, told-rowed}
 

@@ -13,7 +13,7 @@ use Rattle.model.specs.Log.{recordLength}
 use Rattle.state.specs.State.{modelOf, stored}
 use Rattle.state.specs.Reading.{Brief, outcomeOf, brief}
 use Rattle.state.specs.declared.Witness.{Witness}
-use Rattle.reader.specs.Entries.{entriesOf, entries}
+use Rattle.entries.specs.Entries.{entriesOf, entries}
 use Rattle.reader.specs.declared.Batch.{Batch}
 use Rattle.reader.specs.declared.End.{End}
 use Rattle.reader.specs.declared.End.the-variants.{Spent, EndedBy}

@@ -19,7 +19,7 @@ use Rattle.state.specs.Reading.{outcomeOf, brief, rowsOfVotes, padded}
 use Rattle.state.specs.State.{modelOf, stored}
 use Rattle.state.specs.declared.Outcome.{Outcome}
 use Rattle.state.specs.declared.Witness.{Witness}
-use Rattle.reader.specs.Entries.{entries}
+use Rattle.entries.specs.Entries.{entries}
 use Rattle.reader.specs.Many.{Ended, endedBy, Many, readMany, lastTold, endOf, endedTold, IsBatch}
 use Rattle.reader.specs.declared.Batch.{Batch}
 use Rattle.reader.specs.declared.End.the-variants.{Spent, EndedBy}

@@ -44,7 +44,7 @@ fn read_rest(w: Witness, log: &[u8], from: usize, limit: u64) -> Read
         held = r.witness;
         at = r.next;
         last = r.last;
-        votes = reader::last_votes(&rows, r.used, last);
+        votes = entries::last_votes(&rows, r.used, last);
         records += r.records;
         match end {
             End::EndedBy(outcome) => {

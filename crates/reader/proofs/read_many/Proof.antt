@@ -37,11 +37,11 @@ use Rattle.state.proofs.Held.{keys-held, all-held, rule-held}
 use Rattle.state.proofs.Sound.{few-checkpoints, few-votes, ids-long, voters-long, falling, low-heights}
 use Rattle.state.proofs.Stored.{checkpoint-stored}
 use Rattle.bits.proofs.SetPlaces.{among, few-set}
-use Rattle.reader.specs.Entries.{later, entriesOf, entries}
+use Rattle.entries.specs.Entries.{later, entriesOf, entries}
 use Rattle.reader.specs.Many.{readMany}
 use Rattle.reader.proofs.Casting.{Casting, typed-now, few-now, id-now, skip, take-vote, casting-as, none-cast, all-cast}
 use Rattle.reader.proofs.Decisions.{Says, says-fits, first-fits}
-use Rattle.reader.proofs.Entries.{Written, written-length, write-one, write-over, OneEntry, nothing-entry, taken-entry, refused-entry}
+use Rattle.entries.proofs.Entries.{Written, written-length, write-one, write-over, OneEntry, nothing-entry, taken-entry, refused-entry}
 use Rattle.reader.proofs.Made.{length-inside}
 use Rattle.reader.proofs.Runs.{Sofar, none-yet, rows-length, all-read, ended, passed}
 use Rattle.reader.proofs.Searched.{Searched, searched-as, without-vote, with-vote}

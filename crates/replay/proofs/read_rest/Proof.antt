@@ -13,7 +13,7 @@ use Rattle.model.specs.Answer.{answer}
 use Rattle.model.specs.Change.{nothingLeft}
 use Rattle.model.proofs.Lists.{and-left, and-right, lt-or-ge}
 use Rattle.state.specs.Reading.{brief, rowsOfVotes}
-use Rattle.reader.specs.Entries.{entries}
+use Rattle.entries.specs.Entries.{entries}
 use Rattle.reader.specs.Many.{readMany, IsBatch}
 use Rattle.reader.proofs.Made.{many-ends}
 use Rattle.reader.proofs.Votes.{votes-fit, votes-are}

@@ -1,4 +1,4 @@
--- `reader::last_votes` meets its contract. The loop's invariant: the first `i` rows stand at the front. Assumes nothing.
+-- `entries::last_votes` meets its contract. The loop's invariant: the first `i` rows stand at the front. Assumes nothing.
 use Prim.Native.Nat.{ℕ, _+_, _-_, _%_, _<_, _≤_}
 use native.Mathlib.Omega.{arith}
 use mathlib.Core.Path.{_≡_, refl, sym, ap, ap₂, _∙_, subst}
@@ -8,10 +8,10 @@ use borrow.Table.Elements.{map-app}
 use lib.ListN.{length, replicate, getD, set}
 use Rattle.model.specs.Bytes.{part}
 use Rattle.wire.proofs.Parts.{part-more}
-use Rattle.reader.specs.Entries.{votesIn, lastRows}
-use Rattle.reader.proofs.Entries.{Written, write-one, drop-zeros}
-use Rattle.reader.proofs.last_votes.Statement.{statement}
-use Rattle.reader.proofs.last_votes.Tie as tie
+use Rattle.entries.specs.Entries.{votesIn, lastRows}
+use Rattle.entries.proofs.Entries.{Written, write-one, drop-zeros}
+use Rattle.entries.proofs.last_votes.Statement.{statement}
+use Rattle.entries.proofs.last_votes.Tie as tie
 
 abbrev Inv-loop : tie.InvT-loop
 Inv-loop rows used n from votes₀ i₀ votes i =

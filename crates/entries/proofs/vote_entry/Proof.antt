@@ -1,12 +1,12 @@
--- `reader::vote_entry` meets its contract. Assumes nothing.
+-- `entries::vote_entry` meets its contract. Assumes nothing.
 use mathlib.Core.Path.{sym, ap, _∙_}
 use mathlib.Core.Bool.{Bool, cond}
 use borrow.Author.Needs.{needs}
 use Rattle.ballots.specs.Ballot.{changeOf}
 use Rattle.state.specs.Reading.{rowOf}
-use Rattle.reader.specs.Entries.{later}
-use Rattle.reader.proofs.vote_entry.Statement.{statement}
-use Rattle.reader.proofs.vote_entry.Tie as tie
+use Rattle.entries.specs.Entries.{later}
+use Rattle.entries.proofs.vote_entry.Statement.{statement}
+use Rattle.entries.proofs.vote_entry.Tie as tie
 
 row-of-vote-requires : tie.Need-row-of-vote-requires
 row-of-vote-requires c κs = search needs

@@ -1,10 +1,10 @@
--- `reader::row_of` meets its contract, case by case. Assumes nothing.
+-- `entries::row_of` meets its contract, case by case. Assumes nothing.
 use mathlib.Core.Path.{sym, ap, _∙_}
 use borrow.Author.Needs.{needs}
 use Rattle.state.specs.Reading.{outcomeOf, rowOf}
 use Rattle.state.specs.declared.Outcome.{Outcome}
-use Rattle.reader.proofs.row_of.Statement.{statement}
-use Rattle.reader.proofs.row_of.Tie as tie
+use Rattle.entries.proofs.row_of.Statement.{statement}
+use Rattle.entries.proofs.row_of.Tie as tie
 
 enum-known-o : tie.Need-enum-known-o
 enum-known-o c = search needs

@@ -1,4 +1,4 @@
--- `reader::row_of_vote` meets its contract, case by case. Assumes nothing.
+-- `entries::row_of_vote` meets its contract, case by case. Assumes nothing.
 use native.Mathlib.Omega.{arith}
 use mathlib.Core.Path.{sym, ap, _∙_}
 use borrow.Author.Needs.{needs}
@@ -6,8 +6,8 @@ use Rattle.model.proofs.Refusals.{refusal-small}
 use Rattle.ballots.specs.Ballot.{changeOf}
 use Rattle.ballots.specs.declared.votes.Ballot.{Ballot}
 use Rattle.state.specs.Reading.{rowOf}
-use Rattle.reader.proofs.row_of_vote.Statement.{statement}
-use Rattle.reader.proofs.row_of_vote.Tie as tie
+use Rattle.entries.proofs.row_of_vote.Statement.{statement}
+use Rattle.entries.proofs.row_of_vote.Tie as tie
 
 enum-known-b : tie.Need-enum-known-b
 enum-known-b c = search needs

@@ -12,7 +12,7 @@ use lib.Seq.{drop-cons, drop-drop, set-at, take-at, drop-append-add}
 use Rattle.model.specs.Answer.{Answer, refused, answer}
 use Rattle.model.specs.Change.{Told, nothingLeft, taken}
 use Rattle.state.specs.Reading.{rowOf, brief}
-use Rattle.reader.specs.Entries.{later, marked, rowsOf, entriesOf, entries}
+use Rattle.entries.specs.Entries.{later, marked, rowsOf, entriesOf, entries}
 
 -- the first `end` of the bytes lent are these, and the others are as they were
 pub record Written (written before rows : List ℕ) (end : ℕ) : Type 0 where
