@@ -23,14 +23,15 @@ use Rattle.standing.specs.declared.Analysis.{Analysis}
 use Rattle.standing.specs.Answers.{IsAnalysis}
 use Rattle.standing.proofs.Standing.{status-is}
 use Rattle.tables.specs.Places.{heightAt}
+use Rattle.voters.specs.declared.Bar.{Bar}
+use Rattle.voters.specs.declared.Voters.{Voters}
+use Rattle.voters.specs.Bits.{among, countBelow}
+use Rattle.voters.specs.Weights.{Bonds, weightOf}
 use Rattle.tally.specs.declared.links.Weighed.{Weighed}
 use Rattle.tally.specs.declared.votes.Ballots.{Ballots}
-use Rattle.tally.specs.declared.voters.Bar.{Bar}
-use Rattle.tally.specs.declared.voters.Voters.{Voters}
-use Rattle.tally.specs.Bits.{among, countBelow}
 use Rattle.tally.specs.Chains.{Walkable, Tallied}
 use Rattle.tally.specs.Ready.{Ready}
-use Rattle.tally.specs.Weights.{Bonds, IsHeaviest, weightOf}
+use Rattle.tally.specs.Weights.{IsHeaviest}
 use Rattle.tally.proofs.Heaviest.{ready-best}
 use Rattle.tally.proofs.Ready.{ready-bonds, ready-walk}
 use Rattle.board.specs.RowData.{rowIn}

@@ -5,7 +5,6 @@ use model::Place;
 use standing::Analysis;
 use state::Witness;
 use tally::links;
-use tally::voters;
 use tally::votes;
 ghost use mathlib.Core.Path.{_≡_};
 ghost use Prim.Native.Nat.{ℕ, _≤_};

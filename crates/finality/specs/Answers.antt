@@ -7,10 +7,10 @@ use Rattle.model.specs.Limits.{memberLimit}
 use Rattle.model.specs.Model.{Checkpoint}
 use Rattle.model.specs.Support.{Support}
 use Rattle.model.specs.Tree.{ancestor?}
-use Rattle.tally.specs.declared.voters.Voters.{Voters}
-use Rattle.tally.specs.declared.voters.Bar.{Bar}
-use Rattle.tally.specs.Bits.{among, countBelow}
-use Rattle.tally.specs.Weights.{weightOf, enough}
+use Rattle.voters.specs.declared.Voters.{Voters}
+use Rattle.voters.specs.declared.Bar.{Bar}
+use Rattle.voters.specs.Bits.{among, countBelow}
+use Rattle.voters.specs.Weights.{weightOf, enough}
 use Rattle.finality.specs.declared.Backing.{Backing}
 
 -- the backing that the voters give, by the bonds of the members

@@ -9,17 +9,16 @@ use model::Status;
 use standing::status_of;
 use standing::statuses;
 use state::Witness;
-use tally::voters;
-use tally::voters::Bar;
-use tally::voters::Voters;
 use tally::votes;
+use voters::Bar;
+use voters::Voters;
 ghost use mathlib.Core.Path.{_≡_};
 ghost use Prim.Native.Nat.{_<_};
 ghost use Rattle.model.specs.Finality.{status, conflicting?};
 ghost use Rattle.model.specs.Support.{support};
 ghost use Rattle.state.specs.Sound.{Sound};
 ghost use Rattle.state.specs.State.{modelOf};
-ghost use Rattle.tally.specs.Weights.{Bonds, Fits};
+ghost use Rattle.voters.specs.Weights.{Bonds, Fits};
 ghost use Rattle.finality.specs.Answers.{IsBacking, backingOf};
 
 // The backing of a link: how many members are behind it, the sum of their bonds, and whether that is a quorum.

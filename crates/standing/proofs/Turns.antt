@@ -12,11 +12,11 @@ use Rattle.state.specs.declared.Witness.{Witness}
 use Rattle.state.specs.State.{modelOf}
 use Rattle.state.proofs.Entries.{count-checkpoints, checkpoint-is}
 use Rattle.state.proofs.Sound.{few-checkpoints}
-use Rattle.tally.specs.declared.voters.Voters.{Voters}
+use Rattle.voters.specs.declared.Voters.{Voters}
+use Rattle.voters.specs.Weights.{carried}
 use Rattle.tally.specs.declared.votes.Ballots.{Ballots}
 use Rattle.tally.specs.Chains.{Walkable, Tallied}
 use Rattle.tally.specs.Ready.{Ready}
-use Rattle.tally.specs.Weights.{carried}
 use Rattle.tally.proofs.Ready.{ready-walk, ready-link, ready-parent}
 use Rattle.standing.specs.Answers.{IsAnalysis}
 use Rattle.standing.proofs.Marks.{Marked, marked-root, marked-more, marked-all}

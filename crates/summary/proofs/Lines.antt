@@ -15,7 +15,7 @@ use Rattle.model.specs.declared.Status.{Status}
 use Rattle.state.specs.declared.Witness.{Witness}
 use Rattle.state.specs.State.{memberIn, height, modelOf}
 use Rattle.state.proofs.Entries.{count-checkpoints, member-is, checkpoint-is}
-use Rattle.tally.specs.Bits.{sumBelow}
+use Rattle.voters.specs.Bits.{sumBelow}
 use Rattle.tally.proofs.Totals.{all-sum}
 use Rattle.conduct.specs.Held.{Ordered}
 use Rattle.evidence.proofs.Bytes.{flat-snoc}

@@ -15,7 +15,7 @@ use Rattle.state.specs.declared.Witness.{Witness}
 use Rattle.state.specs.State.{modelOf}
 use Rattle.state.proofs.Entries.{count-members, member-is}
 use Rattle.state.specs.Sound.{Sound}
-use Rattle.tally.proofs.Bits.{sum-bound}
+use Rattle.voters.proofs.Bits.{sum-bound}
 use Rattle.tally.proofs.Totals.{all-sum, bonds-good}
 
 part-least : (b : Bool) (x : ℕ) → cond b x 0 ≤ x

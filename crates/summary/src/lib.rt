@@ -19,7 +19,7 @@ pub fn summary(w: Witness, buf: &mut [u8]) -> usize
     let shown = conduct::conducts(w);
     let two = members::member_lines(w, shown, buf, one);
     let count = w.member_count;
-    let total = tally::voters::total_bond(&w.bonds, count);
+    let total = voters::total_bond(&w.bonds, count);
     let named = members::named_bonds(w, shown);
     let conflict = finality::conflict(w);
     lines::total_line(buf, two, total, named, conflict)

@@ -22,10 +22,10 @@ use Rattle.state.specs.State.{memberIn, voteIn, modelOf}
 use Rattle.state.proofs.Entries.{count-members, member-is}
 use Rattle.state.proofs.Held.{members-held}
 use Rattle.state.proofs.Sound.{ids-long, vote-good}
-use Rattle.tally.specs.declared.voters.Voters.{Voters}
+use Rattle.voters.specs.declared.Voters.{Voters}
+use Rattle.voters.specs.Bits.{among}
 use Rattle.tally.specs.declared.votes.Ballots.{Ballots}
-use Rattle.tally.specs.Bits.{among}
-use Rattle.tally.specs.Chains.{nobody, aims, casts, Tallied}
+use Rattle.tally.specs.Chains.{aims, casts, Tallied}
 use Rattle.tally.specs.Ready.{Ready}
 
 id-is : (w : Witness) (i : ℕ) → i < w .«member_count» → memberAt (modelOf w .members) i .id ≡ getD (w .ids) i 0

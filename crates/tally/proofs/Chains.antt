@@ -11,10 +11,10 @@ use lib.ListN.{length, getD, set, length-set, length-replicate, getD-replicate}
 use lib.Seq.{getD-set-same, getD-set-other}
 use Rattle.model.proofs.Lists.{decided}
 use Rattle.search.proofs.Chains.{Walked, walked-none, walked-more, walked-all}
-use Rattle.tally.specs.declared.voters.Voters.{Voters}
-use Rattle.tally.specs.Bits.{among}
-use Rattle.tally.specs.Chains.{nobody, votersAt, noBits, casts, Walkable, Tallied}
-use Rattle.tally.proofs.Bits.{among-none}
+use Rattle.voters.specs.declared.Voters.{Voters}
+use Rattle.voters.specs.Bits.{nobody, among}
+use Rattle.voters.proofs.Bits.{among-none}
+use Rattle.tally.specs.Chains.{votersAt, noBits, casts, Walkable, Tallied}
 
 eqb-comm : (a b : ℕ) → eqb a b ≡ eqb b a
 eqb-comm a b = ⊎-elim (λ e. e ∙ sym (eq-eqb b a (sym (eqb-true a b e)))) (λ e. e ∙ sym (ne-eqb b a (λ q. eqb-false a b e (sym q)))) (decided (eqb a b))

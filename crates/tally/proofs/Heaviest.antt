@@ -17,15 +17,16 @@ use Rattle.model.proofs.Lists.{lt-or-ge}
 use Rattle.state.specs.declared.Witness.{Witness}
 use Rattle.state.specs.State.{modelOf}
 use Rattle.state.proofs.Entries.{count-checkpoints}
-use Rattle.tally.specs.declared.voters.Voters.{Voters}
+use Rattle.voters.specs.declared.Voters.{Voters}
+use Rattle.voters.specs.Bits.{nobody, among, countBelow}
+use Rattle.voters.specs.Weights.{weightOf}
+use Rattle.voters.proofs.Bits.{among-none}
+use Rattle.voters.proofs.Weights.{sum-zero, nobody-weighs}
 use Rattle.tally.specs.declared.votes.Ballots.{Ballots}
-use Rattle.tally.specs.Bits.{among, countBelow}
-use Rattle.tally.specs.Chains.{nobody, Tallied}
+use Rattle.tally.specs.Chains.{Tallied}
 use Rattle.tally.specs.Ready.{Ready}
-use Rattle.tally.specs.Weights.{weightOf, heavier, heaviest}
-use Rattle.tally.proofs.Bits.{among-none}
+use Rattle.tally.specs.Weights.{heavier, heaviest}
 use Rattle.tally.proofs.Ready.{ready-support}
-use Rattle.tally.proofs.Weights.{sum-zero, nobody-weighs}
 
 module _ (weight : Voters → ℕ) where
   pub heavier-first : {one other : Voters} → weight other ≤ weight one → heavier weight one other ≡ one

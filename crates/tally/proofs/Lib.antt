@@ -1,6 +1,4 @@
-pub mod Bits
 pub mod Chains
-pub mod Weights
 pub mod Totals
 pub mod Backed
 pub mod Ready

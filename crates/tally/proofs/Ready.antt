@@ -11,15 +11,15 @@ use Rattle.search.proofs.Chains.{last-le, linked-earlier}
 use Rattle.state.specs.declared.Witness.{Witness}
 use Rattle.state.specs.State.{modelOf}
 use Rattle.state.proofs.Sound.{few-members, few-checkpoints, few-votes, falling, source-held}
-use Rattle.tally.specs.declared.voters.Voters.{Voters}
+use Rattle.voters.specs.declared.Voters.{Voters}
+use Rattle.voters.specs.Bits.{among, countBelow}
+use Rattle.voters.specs.Weights.{Bonds, Fits, weightOf, enough, carried}
+use Rattle.voters.proofs.Weights.{sum-more}
 use Rattle.tally.specs.declared.votes.Ballots.{Ballots}
 use Rattle.tally.specs.Ready.{Ready}
-use Rattle.tally.specs.Bits.{among, countBelow}
 use Rattle.tally.specs.Chains.{aims, Walkable, Tallied}
-use Rattle.tally.specs.Weights.{Bonds, Fits, weightOf, enough, carried}
 use Rattle.tally.proofs.Backed.{Backers, who-held, backers}
 use Rattle.tally.proofs.Totals.{bonds-good, bar-fits, count-is, weight-is, carried-is}
-use Rattle.tally.proofs.Weights.{sum-more}
 
 module _ {w : Witness} {b : Ballots} (r : Ready w b) where
   pub ready-bonds : Bonds (w .bonds) (w .«member_count»)

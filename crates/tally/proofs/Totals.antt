@@ -16,11 +16,11 @@ use Rattle.state.specs.Sound.{Sound}
 use Rattle.state.specs.State.{memberIn, ruleOf, quotaIn, modelOf}
 use Rattle.state.proofs.Entries.{count-members, member-is}
 use Rattle.state.proofs.Sound.{few-members}
-use Rattle.tally.specs.declared.voters.Voters.{Voters}
-use Rattle.tally.specs.declared.voters.Bar.{Bar}
-use Rattle.tally.specs.Bits.{among, sumBelow, countBelow}
-use Rattle.tally.specs.Weights.{Bonds, Fits, IsBar, weightOf, carried}
-use Rattle.tally.proofs.Bits.{sum-same, sum-bound}
+use Rattle.voters.specs.declared.Voters.{Voters}
+use Rattle.voters.specs.declared.Bar.{Bar}
+use Rattle.voters.specs.Bits.{among, sumBelow, countBelow}
+use Rattle.voters.specs.Weights.{Bonds, Fits, IsBar, weightOf, carried}
+use Rattle.voters.proofs.Bits.{sum-same, sum-bound}
 
 -- ---- the model's sums over a table of members
 

@@ -10,12 +10,8 @@ use Rattle.model.specs.Lists.{anyBelow, firstIndex}
 use Rattle.model.specs.declared.Place.{Place}
 use Rattle.tables.specs.Places.{placeAt}
 use Rattle.search.specs.Chains.{Bucketed, Chain}
-use Rattle.tally.specs.declared.voters.Voters.{Voters}
-use Rattle.tally.specs.Bits.{among}
-
--- no voter
-abbrev pub nobody : Voters
-nobody = record { lo = 0; hi = 0 }
+use Rattle.voters.specs.declared.Voters.{Voters}
+use Rattle.voters.specs.Bits.{among}
 
 -- the voters of the link from s, whose words two arrays have
 abbrev pub votersAt : (lo hi : List ℕ) → ℕ → Voters

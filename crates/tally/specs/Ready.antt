@@ -5,9 +5,9 @@ use Rattle.model.specs.Limits.{voteLimit}
 use Rattle.state.specs.declared.Witness.{Witness}
 use Rattle.state.specs.Sound.{Sound}
 use Rattle.state.specs.State.{modelOf}
+use Rattle.voters.specs.Weights.{IsBar}
 use Rattle.tally.specs.declared.votes.Ballots.{Ballots}
 use Rattle.tally.specs.Chains.{Placed, Sourced, ByTarget}
-use Rattle.tally.specs.Weights.{IsBar}
 
 -- each vote's member is found and its source is copied, the votes are in chains by target, and the bar is that of the
 -- rule held and all members

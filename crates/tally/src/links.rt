@@ -1,16 +1,17 @@
 // The links to one target.
-use crate::voters::Bar;
-use crate::voters::Voters;
-use crate::voters::carries;
-use crate::voters::weigh;
 use model::Place;
+use voters::Bar;
+use voters::Voters;
+use voters::carries;
+use voters::weigh;
 ghost use mathlib.Core.Path.{_≡_};
 ghost use mathlib.Core.Bool.{false, _&&_};
 ghost use Prim.Native.Nat.{_≤_};
 ghost use lib.ListN.{length, getD};
 ghost use Rattle.model.specs.Lists.{anyBelow};
+ghost use Rattle.voters.specs.Weights.{Bonds, Fits, weightOf, carried};
 ghost use Rattle.tally.specs.Chains.{votersAt};
-ghost use Rattle.tally.specs.Weights.{Bonds, Fits, IsWeighed, IsHeaviest, weightOf, heavier, carried};
+ghost use Rattle.tally.specs.Weights.{IsWeighed, IsHeaviest, heavier};
 
 // Whether a link with a quorum leads to t from a justified place below it. The voters of the link from place s are
 // `lo[s]` and `hi[s]`.

@@ -1,13 +1,13 @@
 // The votes by target, and the voters of every link to one target.
-use crate::voters::Bar;
-use crate::voters::Voters;
-use crate::voters::insert;
-use crate::voters::total_bond;
 use model::MAX_CHECKPOINTS;
 use model::MAX_VOTES;
 use model::Place;
 use state::Witness;
 use state::quotas::quota_of;
+use voters::Bar;
+use voters::Voters;
+use voters::insert;
+use voters::total_bond;
 ghost use mathlib.Core.Path.{_≡_};
 ghost use Prim.Native.Nat.{ℕ, _≤_, _<_};
 ghost use lib.ListN.{length};

@@ -1,6 +1,6 @@
 -- `finality::backed_by` meets its contract. Assumes nothing.
 use borrow.Author.Needs.{needs}
-use Rattle.tally.proofs.Weights.{weight-bound}
+use Rattle.voters.proofs.Weights.{weight-bound}
 use Rattle.finality.proofs.backed_by.Statement.{statement}
 use Rattle.finality.proofs.backed_by.Tie as tie
 

@@ -4,8 +4,8 @@ use Prim.Native.Nat.{_-_}
 use native.Mathlib.Omega.{arith}
 use mathlib.Core.Path.{refl}
 use borrow.Author.Needs.{needs}
-use Rattle.tally.specs.Bits.{among}
-use Rattle.tally.proofs.Bits.{sum-bound}
+use Rattle.voters.specs.Bits.{among}
+use Rattle.voters.proofs.Bits.{sum-bound}
 use Rattle.board.proofs.Drawing.{Drawn, drawn-none, drawn-bonds, drawn-walk, drawn-more, drawn-all}
 use Rattle.board.proofs.row_data.row_data_of.Statement.{statement}
 use Rattle.board.proofs.row_data.row_data_of.Tie as tie

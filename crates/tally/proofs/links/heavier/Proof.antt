@@ -2,7 +2,7 @@
 use mathlib.Core.Path.{sym}
 use native.Mathlib.Omega.{arith}
 use borrow.Author.Needs.{needs}
-use Rattle.tally.specs.Weights.{weightOf}
+use Rattle.voters.specs.Weights.{weightOf}
 use Rattle.tally.proofs.Heaviest.{heavier-first, heavier-second}
 use Rattle.tally.proofs.links.heavier.Statement.{statement}
 use Rattle.tally.proofs.links.heavier.Tie as tie

@@ -5,10 +5,11 @@ use native.Mathlib.Nat.{le-antisymm}
 use native.Mathlib.Omega.{arith}
 use mathlib.Core.Logic.{⊎-elim}
 use mathlib.Core.Path.{refl, sym, subst}
-use Rattle.tally.specs.Chains.{nobody, votersAt}
+use Rattle.voters.specs.Bits.{nobody}
+use Rattle.voters.proofs.Weights.{nobody-weighs}
+use Rattle.tally.specs.Chains.{votersAt}
 use Rattle.tally.specs.Weights.{IsHeaviest}
 use Rattle.tally.proofs.Heaviest.{heaviest-none, heaviest-marked, heaviest-unmarked}
-use Rattle.tally.proofs.Weights.{nobody-weighs}
 use Rattle.tally.proofs.links.heaviest.Statement.{statement}
 use Rattle.tally.proofs.links.heaviest.Tie as tie
 

@@ -11,10 +11,10 @@ use lib.ListN.{getD}
 use Rattle.model.specs.Lists.{anyBelow}
 use Rattle.model.proofs.Lists.{found-below, both}
 use Rattle.search.proofs.Below.{any-none, any-more}
-use Rattle.tally.specs.declared.voters.Voters.{Voters}
-use Rattle.tally.specs.declared.voters.Bar.{Bar}
+use Rattle.voters.specs.declared.Voters.{Voters}
+use Rattle.voters.specs.declared.Bar.{Bar}
+use Rattle.voters.specs.Weights.{carried}
 use Rattle.tally.specs.Chains.{votersAt}
-use Rattle.tally.specs.Weights.{carried}
 use Rattle.tally.proofs.links.reaches.Statement.{statement}
 use Rattle.tally.proofs.links.reaches.Tie as tie
 

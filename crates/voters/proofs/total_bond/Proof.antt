@@ -1,10 +1,10 @@
--- `tally::voters::total_bond` meets its contract: every member is among those with every bit set. Assumes nothing.
+-- `voters::total_bond` meets its contract: every member is among those with every bit set. Assumes nothing.
 use native.Mathlib.Omega.{arith}
 use mathlib.Core.Path.{refl, _∙_}
 use borrow.Author.Needs.{needs}
-use Rattle.tally.proofs.Bits.{sum-same, all-among}
-use Rattle.tally.proofs.voters.total_bond.Statement.{statement}
-use Rattle.tally.proofs.voters.total_bond.Tie as tie
+use Rattle.voters.proofs.Bits.{sum-same, all-among}
+use Rattle.voters.proofs.total_bond.Statement.{statement}
+use Rattle.voters.proofs.total_bond.Tie as tie
 
 weigh-requires : tie.Need-weigh-requires
 weigh-requires c κs = search needs

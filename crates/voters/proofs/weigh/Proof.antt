@@ -1,9 +1,9 @@
--- `tally::voters::weigh` meets its contract: nobody weighs nothing, and the others' bonds are added up. Assumes
+-- `voters::weigh` meets its contract: nobody weighs nothing, and the others' bonds are added up. Assumes
 -- nothing.
 use borrow.Author.Needs.{needs}
-use Rattle.tally.proofs.Weights.{nobody-weighs}
-use Rattle.tally.proofs.voters.weigh.Statement.{statement}
-use Rattle.tally.proofs.voters.weigh.Tie as tie
+use Rattle.voters.proofs.Weights.{nobody-weighs}
+use Rattle.voters.proofs.weigh.Statement.{statement}
+use Rattle.voters.proofs.weigh.Tie as tie
 
 returns : tie.Need-returns
 returns c = search (needs, nobody-weighs)

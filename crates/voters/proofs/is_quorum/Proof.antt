@@ -1,12 +1,12 @@
--- `tally::voters::is_quorum` meets its contract: it is the definition's test. Assumes nothing.
+-- `voters::is_quorum` meets its contract: it is the definition's test. Assumes nothing.
 use Prim.Native.Nat.{ℕ, _*_, _<_, _≤_, _^_}
 use native.Mathlib.Nat.{mul-le-mul}
 use native.Mathlib.Omega.{arith}
 use mathlib.Core.Path.{refl}
 use Rattle.model.specs.Limits.{memberLimit, bondLimit, partLimit}
 use Rattle.model.specs.Support.{quorum}
-use Rattle.tally.proofs.voters.is_quorum.Statement.{statement}
-use Rattle.tally.proofs.voters.is_quorum.Tie as tie
+use Rattle.voters.proofs.is_quorum.Statement.{statement}
+use Rattle.voters.proofs.is_quorum.Tie as tie
 
 -- 1,000 times the largest sum of bonds
 small : (k n : ℕ) → k ≤ partLimit → n ≤ memberLimit * bondLimit → k * n < 2 ^ 64

@@ -1,4 +1,4 @@
--- `tally::voters::add_bonds` meets its contract. The loop's invariant: the sum is that over the members passed. Assumes
+-- `voters::add_bonds` meets its contract. The loop's invariant: the sum is that over the members passed. Assumes
 -- nothing.
 use Prim.Native.Nat.{ℕ, _≤_, _-_}
 use native.Mathlib.Nat.{le-antisymm}
@@ -7,10 +7,10 @@ use mathlib.Core.Logic.{⊎-elim}
 use mathlib.Core.Path.{_≡_, sym, _∙_}
 use lib.ListN.{getD}
 use Rattle.model.specs.Limits.{bondLimit}
-use Rattle.tally.specs.Bits.{among, sumBelow}
-use Rattle.tally.proofs.Bits.{sum-bound, sum-none, sum-with, sum-without}
-use Rattle.tally.proofs.voters.add_bonds.Statement.{statement}
-use Rattle.tally.proofs.voters.add_bonds.Tie as tie
+use Rattle.voters.specs.Bits.{among, sumBelow}
+use Rattle.voters.proofs.Bits.{sum-bound, sum-none, sum-with, sum-without}
+use Rattle.voters.proofs.add_bonds.Statement.{statement}
+use Rattle.voters.proofs.add_bonds.Tie as tie
 
 abbrev Inv-loop : tie.InvT-loop
 Inv-loop v bonds count sum₀ i₀ sum i = (i ≤ count) × (sum ≡ sumBelow i (among v) (λ k. getD bonds k 0))

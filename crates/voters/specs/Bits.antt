@@ -2,7 +2,11 @@
 use Prim.Native.Nat.{ℕ, zero, suc, _+_, _-_, _/_, _%_, _^_}
 use mathlib.Core.Bool.{Bool, cond}
 use lib.Dec.{eqb, ltb}
-use Rattle.tally.specs.declared.voters.Voters.{Voters}
+use Rattle.voters.specs.declared.Voters.{Voters}
+
+-- no voter
+abbrev pub nobody : Voters
+nobody = record { lo = 0; hi = 0 }
 
 -- bit i of a number
 unfoldable pub bit : ℕ → ℕ → Bool

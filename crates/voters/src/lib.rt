@@ -1,12 +1,12 @@
-// The members behind a link, and what their bonds come to.
+// The members behind a link, what their bonds come to, and whether that is a quorum.
 ghost use mathlib.Core.Path.{_≡_};
 ghost use mathlib.Core.Bool.{true, _||_};
 ghost use Prim.Native.Nat.{ℕ, _*_, _≤_, _<_};
 ghost use lib.Dec.{eqb};
 ghost use lib.ListN.{getD};
 ghost use Rattle.model.specs.Limits.{memberLimit, bondLimit};
-ghost use Rattle.tally.specs.Bits.{among, sumBelow, countBelow};
-ghost use Rattle.tally.specs.Weights.{Bonds, Fits, weightOf, enough, carried};
+ghost use Rattle.voters.specs.Bits.{among, sumBelow, countBelow};
+ghost use Rattle.voters.specs.Weights.{Bonds, Fits, weightOf, enough, carried};
 
 // The members behind a link as 128 bits: the member at place i is bit i, in `lo` below 64 and in `hi` from there on.
 pub struct Voters {

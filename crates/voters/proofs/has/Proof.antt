@@ -1,10 +1,10 @@
--- `tally::voters::has` meets its contract: the bit is looked up in its word. Assumes nothing.
+-- `voters::has` meets its contract: the bit is looked up in its word. Assumes nothing.
 use mathlib.Core.Path.{sym}
 use borrow.Author.Needs.{needs}
-use Rattle.tally.specs.Bits.{bit}
-use Rattle.tally.proofs.Bits.{among-low, among-high}
-use Rattle.tally.proofs.voters.has.Statement.{statement}
-use Rattle.tally.proofs.voters.has.Tie as tie
+use Rattle.voters.specs.Bits.{bit}
+use Rattle.voters.proofs.Bits.{among-low, among-high}
+use Rattle.voters.proofs.has.Statement.{statement}
+use Rattle.voters.proofs.has.Tie as tie
 
 shr-result : tie.Need-shr-result
 shr-result c = search needs

@@ -12,8 +12,8 @@ use lib.Count.{ones, ones-step}
 use lib.Dec.{eqb, eqb·zero-suc, eqb·suc-zero, eqb·suc-suc}
 use lib.Pow.{pow-pos, shl-exact}
 use Rattle.model.proofs.Lists.{decided, lt-or-ge}
-use Rattle.tally.specs.declared.voters.Voters.{Voters}
-use Rattle.tally.specs.Bits.{bit, among, sumBelow, countBelow}
+use Rattle.voters.specs.declared.Voters.{Voters}
+use Rattle.voters.specs.Bits.{bit, among, sumBelow, countBelow}
 
 -- ---- a bit: the lowest, and the bits of the half
 

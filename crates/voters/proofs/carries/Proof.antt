@@ -1,8 +1,8 @@
--- `tally::voters::carries` meets its contract: the voters are weighed. Assumes nothing.
+-- `voters::carries` meets its contract: the voters are weighed. Assumes nothing.
 use borrow.Author.Needs.{needs}
-use Rattle.tally.proofs.Weights.{weight-bound}
-use Rattle.tally.proofs.voters.carries.Statement.{statement}
-use Rattle.tally.proofs.voters.carries.Tie as tie
+use Rattle.voters.proofs.Weights.{weight-bound}
+use Rattle.voters.proofs.carries.Statement.{statement}
+use Rattle.voters.proofs.carries.Tie as tie
 
 weigh-requires : tie.Need-weigh-requires
 weigh-requires c κs = search needs

@@ -8,11 +8,10 @@ use mathlib.Core.Logic.{⊎-elim}
 use lib.ListN.{getD}
 use Rattle.model.specs.Limits.{bondLimit}
 use Rattle.model.proofs.Lists.{lt-or-ge}
-use Rattle.tally.specs.declared.voters.Voters.{Voters}
-use Rattle.tally.specs.Bits.{among, sumBelow}
-use Rattle.tally.specs.Chains.{nobody}
-use Rattle.tally.specs.Weights.{Bonds, weightOf}
-use Rattle.tally.proofs.Bits.{among-none, sum-bound}
+use Rattle.voters.specs.declared.Voters.{Voters}
+use Rattle.voters.specs.Bits.{nobody, among, sumBelow}
+use Rattle.voters.specs.Weights.{Bonds, weightOf}
+use Rattle.voters.proofs.Bits.{among-none, sum-bound}
 
 pub sum-zero : (n : ℕ) (p : ℕ → Bool) (f : ℕ → ℕ) → ((i : ℕ) → i < n → p i ≡ false) → sumBelow n p f ≡ 0
 unfolding sumBelow

@@ -1,8 +1,8 @@
--- `tally::voters::insert` meets its contract: the bit is set in its word. Assumes nothing.
+-- `voters::insert` meets its contract: the bit is set in its word. Assumes nothing.
 use borrow.Author.Needs.{needs}
-use Rattle.tally.proofs.Bits.{insert-low, insert-high}
-use Rattle.tally.proofs.voters.insert.Statement.{statement}
-use Rattle.tally.proofs.voters.insert.Tie as tie
+use Rattle.voters.proofs.Bits.{insert-low, insert-high}
+use Rattle.voters.proofs.insert.Statement.{statement}
+use Rattle.voters.proofs.insert.Tie as tie
 
 shl-t6 : tie.Need-shl-t6
 shl-t6 c = search needs

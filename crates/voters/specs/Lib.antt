@@ -1,0 +1,3 @@
+-- What the functions on voters say.
+pub mod Bits
+pub mod Weights
