@@ -24,7 +24,7 @@ use Rattle.state.proofs.Entries.{count-members, count-votes, member-is}
 use Rattle.state.proofs.Kept.{Kept, changes-kept, store-both}
 use Rattle.bits.proofs.SetPlaces.{setBelow, one-more, none-more}
 use Rattle.ballots.specs.Ballot.{castVote}
-use Rattle.rules.specs.Decision.{castEach}
+use Rattle.registry.specs.Decision.{castEach}
 use Rattle.rules.proofs.Bundled.{afterEach, each-more, each-fits, each-members, each-number}
 use Rattle.entries.specs.Entries.{later, marked, rowsOf, entriesOf}
 use Rattle.entries.proofs.Entries.{Written, write-one, marked-more}

@@ -9,8 +9,8 @@ use Rattle.model.specs.Decide.{decide}
 use Rattle.model.specs.Model.{Model}
 use Rattle.model.proofs.Bytes.{drop-bytes}
 use Rattle.model.proofs.Fits.{Fits, FitAll, one-change, changes-fit}
-use Rattle.rules.specs.Decision.{decisionOf}
-use Rattle.rules.specs.declared.Decision.{Decision}
+use Rattle.registry.specs.Decision.{decisionOf}
+use Rattle.registry.specs.declared.Decision.{Decision}
 use Rattle.state.specs.State.{modelOf}
 use Rattle.state.specs.declared.Witness.{Witness}
 

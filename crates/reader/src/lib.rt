@@ -1,7 +1,7 @@
 // Reading a log on: several records in one call.
 use ballots::votes::Ballot;
 use model::MAX_MEMBERS;
-use rules::Decision;
+use registry::Decision;
 use state::Counts;
 use state::Numbers;
 use state::Outcome;

@@ -20,9 +20,10 @@ use Rattle.model.proofs.Fits.{FitAll, no-change, one-change, append-both, fit-b
 use Rattle.model.proofs.Lists.{found-any, any-first, all-map}
 use Rattle.state.specs.Reading.{manyVotes, brief}
 use Rattle.ballots.specs.Ballot.{castVote}
-use Rattle.rules.specs.Decision.{castEach, decisionOf, BitsFit}
-use Rattle.rules.specs.declared.Decision.{Decision as Decides}
-use Rattle.rules.specs.declared.Decision.the-variants.{Nothing, Refuse, Member, Checkpoint, Vote, Bundle, Quorum}
+use Rattle.registry.specs.Decision.{castEach, decisionOf}
+use Rattle.registry.specs.declared.Decision.{Decision as Decides}
+use Rattle.registry.specs.declared.Decision.the-variants.{Nothing, Refuse, Member, Checkpoint, Vote, Bundle, Quorum}
+use Rattle.rules.specs.Decision.{BitsFit}
 
 -- two models say the same of links and of ids
 record Alike (m n : Model) : Type 0 where

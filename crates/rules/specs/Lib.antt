@@ -1,2 +1,2 @@
--- What the rows decide, and how the code says it.
+-- What is said of a decision, beside what it means.
 pub mod Decision

@@ -1,10 +1,10 @@
 // What is decided on a bundle of votes.
-use crate::Decision;
 use ballots::links::link_of;
 use model::Height;
 use model::MAX_CHECKPOINTS;
 use model::Place;
 use model::Refusal;
+use registry::Decision;
 use state::Counts;
 ghost use mathlib.Core.Path.{_≡_};
 ghost use Prim.Native.Nat.{_+_, _*_, _≤_};
@@ -16,7 +16,8 @@ ghost use Rattle.model.specs.Limits.{checkpointLimit};
 ghost use Rattle.model.specs.Model.{Model};
 ghost use Rattle.tables.specs.Places.{Falling};
 ghost use Rattle.state.specs.Tables.{NamesHeld, HeightsHeld, AncestorsHeld};
-ghost use Rattle.rules.specs.Decision.{decisionOf, BitsFit};
+ghost use Rattle.registry.specs.Decision.{decisionOf};
+ghost use Rattle.rules.specs.Decision.{BitsFit};
 
 // Rows 61 and 62, on the bundle at `at`; then 31 to 34, which are the same for all its votes.
 pub fn decide_bundle<'a>(

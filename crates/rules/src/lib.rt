@@ -1,11 +1,13 @@
-// What the rows of document 01, and of the change requests, decide on a record. What they decide on a link and on one
-// vote for it is in crate `ballots`.
-use ballots::links::LinkAnswer;
+// What the rows of document 01, and of the change requests, decide on a record. What they decide on a member, a
+// checkpoint and a quorum is in crate `registry`, and on a link and one vote for it in crate `ballots`.
 use model::Height;
 use model::MAX_CHECKPOINTS;
 use model::Place;
-use model::Quota;
 use model::Refusal;
+use registry::Decision;
+use registry::checkpoints;
+use registry::members;
+use registry::quorums;
 use state::Counts;
 use state::Numbers;
 use state::Outcome;
@@ -19,26 +21,11 @@ ghost use Rattle.state.specs.Reading.{outcomeOf, brief};
 ghost use Rattle.state.specs.State.{ruleOf, quotaIn};
 ghost use Rattle.state.specs.Tables.{Held};
 ghost use Rattle.ballots.specs.Fit.{Fit};
-ghost use Rattle.rules.specs.Decision.{decisionOf, BitsFit};
+ghost use Rattle.registry.specs.Decision.{decisionOf};
+ghost use Rattle.rules.specs.Decision.{BitsFit};
 
 pub mod bundles;
-pub mod checkpoints;
-pub mod members;
-pub mod quorums;
 pub mod votes;
-
-// What is decided on a record: nothing is there; a row refuses it; or what is to be held: a member's id and bond; the
-// place of a checkpoint's parent, and its own height; a vote's member, source and target; a quorum's quota. Of a
-// bundle that is not refused whole: how many votes it has, and what rows 31 to 34 make of their link.
-pub enum Decision {
-    Nothing,
-    Refuse(Refusal),
-    Member(u16, u64),
-    Checkpoint(Place, Height),
-    Vote(u16, Place, Place),
-    Bundle(usize, LinkAnswer),
-    Quorum(Quota),
-}
 
 // What the record comes to by the decision.
 pub fn outcome_of(d: Decision) -> Outcome

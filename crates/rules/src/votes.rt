@@ -1,11 +1,11 @@
 // What is decided on a vote record.
-use crate::Decision;
 use ballots::votes::Ballot;
 use ballots::votes::room;
 use ballots::votes::vote_of;
 use model::Height;
 use model::MAX_CHECKPOINTS;
 use model::Place;
+use registry::Decision;
 use state::Counts;
 ghost use mathlib.Core.Path.{_≡_};
 ghost use Prim.Native.Nat.{_+_, _≤_};
@@ -16,7 +16,7 @@ ghost use Rattle.model.specs.Decide.{decideVote};
 ghost use Rattle.model.specs.Model.{Model};
 ghost use Rattle.state.specs.Tables.{Held};
 ghost use Rattle.ballots.specs.Fit.{Fit};
-ghost use Rattle.rules.specs.Decision.{decisionOf};
+ghost use Rattle.registry.specs.Decision.{decisionOf};
 
 // Rows 30 to 36, on the vote record at `at`.
 pub fn decide_vote<'a>(

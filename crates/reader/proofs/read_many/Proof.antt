@@ -24,8 +24,9 @@ use Rattle.model.proofs.Lists.{and-left, and-right, both, clash, not-so}
 use Rattle.ballots.specs.Ballot.{linkAnswerOf, changeOf, castVote}
 use Rattle.ballots.specs.declared.votes.Ballot.{Ballot}
 use Rattle.ballots.specs.declared.votes.Ballot.the-variants.{Cast}
-use Rattle.rules.specs.Decision.{castEach, decisionOf, Bits, BitsFit}
-use Rattle.rules.specs.declared.Decision.{Decision}
+use Rattle.registry.specs.Decision.{castEach, decisionOf}
+use Rattle.registry.specs.declared.Decision.{Decision}
+use Rattle.rules.specs.Decision.{Bits, BitsFit}
 use Rattle.rules.proofs.Bundled.{cast-fits}
 use Rattle.state.specs.Reading.{outcomeOf, rowOf, brief}
 use Rattle.state.specs.Sound.{Sound}

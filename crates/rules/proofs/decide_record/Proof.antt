@@ -1,22 +1,34 @@
 -- `rules::decide_record` meets its contract: row 5 by the record's size, then the rows of its kind. Assumes nothing.
 use Prim.Native.Nat.{ℕ, _-_, _<_, _≤_}
-use mathlib.Core.Path.{_≡_, refl, sym, ap, _∙_}
+use mathlib.Core.Path.{_≡_, refl, sym, ap, ap₂, _∙_}
 use mathlib.Core.List.{List}
+use mathlib.Core.Bool.{_||_}
 use native.Mathlib.Omega.{arith}
 use borrow.Author.Needs.{needs}
+use lib.Dec.{ltb}
 use lib.ListN.{length, drop, getD}
 use Rattle.model.specs.Answer.{Answer}
 use Rattle.model.specs.Change.{Change, single}
-use Rattle.model.specs.Decide.{decideRecord, decide}
+use Rattle.model.specs.Decide.{membersFixed, decideRecord, decide}
 use Rattle.model.specs.Log.{Kind, kindOf, sizeOf, decodeAs, recordSize}
 use Rattle.model.specs.Model.{Model}
+use Rattle.model.specs.declared.Height.{Height}
+use Rattle.model.specs.declared.Place.{Place}
 use Rattle.model.proofs.Log.{none-at, cut-at, whole-at, other-kind}
-use Rattle.rules.specs.Decision.{decisionOf, BitsFit}
-use Rattle.rules.specs.declared.Decision.{Decision}
+use Rattle.state.specs.Tables.{Held}
+use Rattle.state.specs.declared.Counts.{Counts}
+use Rattle.registry.specs.Decision.{decisionOf}
+use Rattle.registry.specs.declared.Decision.{Decision}
+use Rattle.rules.specs.Decision.{BitsFit}
 use Rattle.rules.proofs.Bundled.{single-fits}
-use Rattle.rules.proofs.Decided.{members-fixed}
 use Rattle.rules.proofs.decide_record.Statement.{statement}
 use Rattle.rules.proofs.decide_record.Tie as tie
+
+-- row 10's condition, of the counts
+members-fixed : {m : Model} {n : Counts} {ids names keys : List ℕ} {parents : List Place} {heights : List Height}
+    → Held m n ids names parents heights keys → membersFixed m ≡ (ltb 0 (n .votes) || ltb 1 (n .checkpoints))
+unfolding membersFixed
+members-fixed held = ap₂ (λ (v c : ℕ). ltb 0 v || ltb 1 c) (held .keys-held .count) (held .names-held .count)
 
 abbrev lent : tie.After-shared-slice-known6 → tie.Start
 lent c = c .before .before .before .before .before .before

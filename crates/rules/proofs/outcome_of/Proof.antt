@@ -7,8 +7,9 @@ use Rattle.model.specs.Answer.{Answer, answer}
 use Rattle.model.specs.Change.{single}
 use Rattle.model.specs.Model.{Model}
 use Rattle.state.specs.Reading.{Brief, manyVotes, brief}
-use Rattle.rules.specs.Decision.{decisionOf, BitsFit}
-use Rattle.rules.specs.declared.Decision.{Decision}
+use Rattle.registry.specs.Decision.{decisionOf}
+use Rattle.registry.specs.declared.Decision.{Decision}
+use Rattle.rules.specs.Decision.{BitsFit}
 use Rattle.rules.proofs.Bundled.{bundle-number}
 use Rattle.rules.proofs.outcome_of.Statement.{statement}
 use Rattle.rules.proofs.outcome_of.Tie as tie

@@ -17,7 +17,7 @@ use Rattle.model.specs.Lists.{any}
 use Rattle.model.specs.Model.{Model, Link}
 use Rattle.state.proofs.Fields.{part-at}
 use Rattle.ballots.proofs.Linked.{link-read}
-use Rattle.rules.specs.Decision.{castEach}
+use Rattle.registry.specs.Decision.{castEach}
 use Rattle.rules.proofs.Bundled.{bundle-rows, bundle-by-link}
 use Rattle.rules.proofs.bundles.decide_bundle.Statement.{statement}
 use Rattle.rules.proofs.bundles.decide_bundle.Tie as tie

@@ -13,7 +13,7 @@ ghost use Rattle.model.specs.Change.{single};
 ghost use Rattle.model.specs.Decide.{membersFixed, decideQuorum};
 ghost use Rattle.model.specs.Model.{Model};
 ghost use Rattle.state.specs.State.{ruleOf, quotaIn};
-ghost use Rattle.rules.specs.Decision.{decisionOf};
+ghost use Rattle.registry.specs.Decision.{decisionOf};
 
 // Rows 63 and 64, on the quorum record at `at`; `fixed` is row 10's condition.
 pub fn decide_quorum(numbers: Numbers, fixed: bool, log: &[u8], at: usize) -> Decision

@@ -13,7 +13,7 @@ ghost use Rattle.model.specs.Decide.{decideCheckpoint};
 ghost use Rattle.model.specs.Limits.{checkpointLimit};
 ghost use Rattle.model.specs.Model.{Model};
 ghost use Rattle.state.specs.Tables.{NamesHeld, HeightsHeld, Low};
-ghost use Rattle.rules.specs.Decision.{decisionOf};
+ghost use Rattle.registry.specs.Decision.{decisionOf};
 
 // Rows 20 to 22, on the checkpoint record at `at`.
 pub fn decide_checkpoint(

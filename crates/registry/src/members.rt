@@ -11,7 +11,7 @@ ghost use Rattle.model.specs.Change.{single};
 ghost use Rattle.model.specs.Decide.{membersFixed, decideMember};
 ghost use Rattle.model.specs.Model.{Model};
 ghost use Rattle.state.specs.Tables.{MembersHeld};
-ghost use Rattle.rules.specs.Decision.{decisionOf};
+ghost use Rattle.registry.specs.Decision.{decisionOf};
 
 // Rows 10 to 13, on the member record at `at`; `fixed` is row 10's condition.
 pub fn decide_member(ids: &[u16], count: usize, fixed: bool, log: &[u8], at: usize) -> Decision

@@ -13,14 +13,11 @@ use Rattle.model.specs.Decide.{membersFixed, bondOutOfRange, decideMember, deci
 use Rattle.model.specs.Lists.{firstIndex, sameBytes}
 use Rattle.model.specs.Limits.{bondLimit, memberLimit, checkpointLimit}
 use Rattle.model.specs.Model.{Model, Member, heightOf, placeOf, idHeld, nameHeld}
-use Rattle.model.specs.declared.Height.{Height}
 use Rattle.model.specs.Rule.{given?, permitted?}
-use Rattle.model.specs.declared.Place.{Place}
 use Rattle.model.specs.declared.Quota.{Quota}
 use Rattle.model.proofs.Lists.{or-left, or-right}
 use Rattle.names.specs.Rows.{rows}
-use Rattle.state.specs.Tables.{NamesHeld, Held}
-use Rattle.state.specs.declared.Counts.{Counts}
+use Rattle.state.specs.Tables.{NamesHeld}
 use Rattle.state.proofs.Fields.{part-at, field-at}
 use Rattle.ballots.proofs.Linked.{found-at, held-at}
 
@@ -28,12 +25,6 @@ use Rattle.ballots.proofs.Linked.{found-at, held-at}
 pub member-read : (at : ℕ) (log : List ℕ) {id bond : ℕ} → id ≡ field (at + 1) 2 log → bond ≡ field (at + 3) 8 log
     → _≡_ {A = Member} (record { id = id; bond = bond }) (record { id = field 1 2 (drop at log); bond = field 3 8 (drop at log) })
 member-read at log p q = λ i. record { id = (p ∙ sym (field-at at 1 2 log)) i; bond = (q ∙ sym (field-at at 3 8 log)) i }
-
--- row 10's condition, of the counts
-pub members-fixed : {m : Model} {n : Counts} {ids names keys : List ℕ} {parents : List Place} {heights : List Height}
-    → Held m n ids names parents heights keys → membersFixed m ≡ (ltb 0 (n .votes) || ltb 1 (n .checkpoints))
-unfolding membersFixed
-members-fixed held = ap₂ (λ (v c : ℕ). ltb 0 v || ltb 1 c) (held .keys-held .count) (held .names-held .count)
 
 pub member-rows : (m : Model) (x : Member) {b10 b11 b12 b13 : Bool}
     → membersFixed m ≡ b10

@@ -1,4 +1,4 @@
--- `rules::quorums::decide_quorum` meets its contract: its tests are rows 63 and 64, in their order. Assumes nothing.
+-- `registry::quorums::decide_quorum` meets its contract: its tests are rows 63 and 64, in their order. Assumes nothing.
 use mathlib.Core.Path.{_≡_, refl, sym, ap, _∙_}
 use borrow.Author.Needs.{needs}
 use borrow.Author.Tests.{not-true, not-false}
@@ -10,9 +10,9 @@ use Rattle.model.specs.Model.{Model}
 use Rattle.model.specs.Rule.{given?, permitted?}
 use Rattle.model.specs.declared.Quota.{Quota}
 use Rattle.state.specs.State.{ruleOf, quotaIn}
-use Rattle.rules.proofs.Decided.{quota-read, quorum-rows}
-use Rattle.rules.proofs.quorums.decide_quorum.Statement.{statement}
-use Rattle.rules.proofs.quorums.decide_quorum.Tie as tie
+use Rattle.registry.proofs.Decided.{quota-read, quorum-rows}
+use Rattle.registry.proofs.quorums.decide_quorum.Statement.{statement}
+use Rattle.registry.proofs.quorums.decide_quorum.Tie as tie
 
 abbrev start : tie.Else1 → tie.Start
 start c = c .before .before

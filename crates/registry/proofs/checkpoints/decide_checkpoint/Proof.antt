@@ -1,4 +1,5 @@
--- `rules::checkpoints::decide_checkpoint` meets its contract: its tests are rows 20 to 22, in their order. Assumes nothing.
+-- `registry::checkpoints::decide_checkpoint` meets its contract: its tests are rows 20 to 22, in their order. Assumes
+-- nothing.
 use Prim.Native.Nat.{ℕ}
 use mathlib.Core.Path.{_≡_, refl, sym, ap, _∙_}
 use mathlib.Core.List.{List}
@@ -13,9 +14,9 @@ use Rattle.model.specs.Change.{single}
 use Rattle.model.specs.Limits.{checkpointLimit}
 use Rattle.model.specs.Model.{Model, nameHeld}
 use Rattle.state.specs.Tables.{NamesHeld}
-use Rattle.rules.proofs.Decided.{checkpoint-rows, checkpoint-taken, held-name, found-name}
-use Rattle.rules.proofs.checkpoints.decide_checkpoint.Statement.{statement}
-use Rattle.rules.proofs.checkpoints.decide_checkpoint.Tie as tie
+use Rattle.registry.proofs.Decided.{checkpoint-rows, checkpoint-taken, held-name, found-name}
+use Rattle.registry.proofs.checkpoints.decide_checkpoint.Statement.{statement}
+use Rattle.registry.proofs.checkpoints.decide_checkpoint.Tie as tie
 
 abbrev start : tie.After-find-name → tie.Start
 start c = c .before .before .before

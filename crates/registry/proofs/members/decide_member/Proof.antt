@@ -1,4 +1,4 @@
--- `rules::members::decide_member` meets its contract: its tests are rows 10 to 13, in their order. Assumes nothing.
+-- `registry::members::decide_member` meets its contract: its tests are rows 10 to 13, in their order. Assumes nothing.
 use Prim.Native.Nat.{ℕ}
 use mathlib.Core.Path.{_≡_, refl, sym, ap, _∙_}
 use mathlib.Core.List.{List}
@@ -16,9 +16,9 @@ use Rattle.model.specs.Model.{Model, Member, idHeld}
 use Rattle.state.specs.Tables.{MembersHeld}
 use Rattle.state.proofs.Fields.{field-at}
 use Rattle.state.proofs.Held.{held-id}
-use Rattle.rules.proofs.Decided.{member-read, member-rows, bond-zero, bond-above, bond-fits}
-use Rattle.rules.proofs.members.decide_member.Statement.{statement}
-use Rattle.rules.proofs.members.decide_member.Tie as tie
+use Rattle.registry.proofs.Decided.{member-read, member-rows, bond-zero, bond-above, bond-fits}
+use Rattle.registry.proofs.members.decide_member.Statement.{statement}
+use Rattle.registry.proofs.members.decide_member.Tie as tie
 
 abbrev start : tie.Else1 → tie.Start
 start c = c .before .before .before
