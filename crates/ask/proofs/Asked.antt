@@ -21,10 +21,11 @@ use Rattle.checker.specs.Check.{checkOf}
 use Rattle.checker.specs.declared.CheckAnswer.the-variants.{Refused as RefusedCheck}
 use Rattle.model.specs.Buffer.{writeAnswerOf}
 use Rattle.model.specs.declared.WriteAnswer.the-variants.{Refused as RefusedWrite}
-use Rattle.witness.specs.Answers.{statusOf, conflictOf}
-use Rattle.witness.specs.Calls.{onSound, statusCall, conflictCall, writeCall, writeBuffer, checkCall}
-use Rattle.witness.specs.declared.StatusAnswer.the-variants.{Refused as RefusedStatus}
-use Rattle.witness.specs.declared.ConflictAnswer.the-variants.{Refused as RefusedConflict}
+use Rattle.sound.specs.Held.{onSound}
+use Rattle.answers.specs.Answers.{statusOf, conflictOf}
+use Rattle.answers.specs.Calls.{statusCall, conflictCall, writeCall, writeBuffer, checkCall}
+use Rattle.answers.specs.declared.StatusAnswer.the-variants.{Refused as RefusedStatus}
+use Rattle.answers.specs.declared.ConflictAnswer.the-variants.{Refused as RefusedConflict}
 use Rattle.ask.specs.Book.{book, onBook, bookLast, recordsRead, IsAnswers, bookBuffer}
 use Rattle.guarantee.specs.LogRead.{recordsOf, replayed}
 use Rattle.replay.specs.IsReplay.{Shown, shown, readOf, IsReplay}

@@ -15,7 +15,7 @@ use Rattle.model.specs.Model.{Model, start}
 use Rattle.model.specs.Run.{after, outcomes}
 use Rattle.checker.specs.Check.{checkOf}
 use Rattle.state.specs.Reading.{outcomeOf, brief, rowsOfVotes, padded}
-use Rattle.witness.specs.Answers.{statusOf, conflictOf}
+use Rattle.answers.specs.Answers.{statusOf, conflictOf}
 use Rattle.ask.specs.declared.Answers.{Answers}
 use Rattle.reader.specs.Many.{lastTold}
 use Rattle.guarantee.specs.LogRead.{recordsOf}

@@ -1,4 +1,6 @@
 // A log read from its header on, and then asked: its book answers.
+use answers::ConflictAnswer;
+use answers::StatusAnswer;
 use checker::CheckAnswer;
 use model::MAX_MEMBERS;
 use model::Place;
@@ -6,8 +8,6 @@ use model::WriteAnswer;
 use state::Outcome;
 use state::Start;
 use state::Witness;
-use witness::ConflictAnswer;
-use witness::StatusAnswer;
 ghost use mathlib.Core.Path.{_≡_};
 ghost use Rattle.model.specs.Log.{header};
 ghost use Rattle.ask.specs.Book.{IsAnswers, bookBuffer};
@@ -44,10 +44,10 @@ pub fn ask(w: Witness, log: &[u8], limit: u64, p: Place, theirs: &[u8], buf: &mu
             last,
             rows,
             records: read.records,
-            status: witness::status(held, p),
-            conflict: witness::conflict(held),
-            ours: witness::write_list(held, buf),
-            theirs: witness::check_list(held, theirs),
+            status: answers::status(held, p),
+            conflict: answers::conflict(held),
+            ours: answers::write_list(held, buf),
+            theirs: answers::check_list(held, theirs),
         },
         Start::Refused(refusal) => Answers {
             last: Outcome::Refused(refusal),

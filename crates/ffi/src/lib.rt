@@ -1,5 +1,8 @@
 // The public calls for a caller in Rust or C. Each asks nothing of its caller: the state handed in is checked by row
 // 40.
+use answers::ConflictAnswer;
+use answers::StatusAnswer;
+use answers::SupportAnswer;
 use checker::CheckAnswer;
 use codes::Answered;
 use codes::Backed;
@@ -9,9 +12,6 @@ use codes::Read;
 use codes::Replay;
 use model::Place;
 use state::Witness;
-use witness::ConflictAnswer;
-use witness::StatusAnswer;
-use witness::SupportAnswer;
 ghost use mathlib.Core.Path.{_≡_};
 ghost use Prim.Native.Nat.{_+_};
 ghost use lib.ListN.{length, drop};
@@ -21,9 +21,9 @@ ghost use Rattle.model.specs.Paper.{paper};
 ghost use Rattle.model.specs.Run.{reading};
 ghost use Rattle.state.specs.Reading.{beginWith};
 ghost use Rattle.state.specs.Sound.{sound?};
-ghost use Rattle.witness.specs.Calls.{eventCall, checkCall, statusCall, supportCall, conflictCall};
+ghost use Rattle.witness.specs.Calls.{eventCall};
 ghost use Rattle.witness.specs.Readings.{passed};
-ghost use Rattle.witness.specs.Calls.{writeCall, writeBuffer};
+ghost use Rattle.answers.specs.Calls.{checkCall, statusCall, supportCall, conflictCall, writeCall, writeBuffer};
 ghost use Rattle.guarantee.specs.LogRead.{replayed};
 ghost use Rattle.feeding.specs.Feed.{openCall, feedCall, endCall};
 ghost use Rattle.codes.specs.Numbers.{statusNumber, yesNumber, IsAnswered, IsBacked, IsBegun, IsRead, IsReplayed};
@@ -106,7 +106,7 @@ pub extern "C" fn ffw_sound(w: Witness) -> bool
 pub extern "C" fn ffw_status(w: Witness, place: Place) -> Answered
     ensures { λ r. ⌜ IsAnswered statusNumber (statusCall w (place .0)) r ⌝ }
 {
-    match witness::status(w, place) {
+    match answers::status(w, place) {
         StatusAnswer::Is(s) => Answered {
             refused: 0,
             value: codes::status_number(s),
@@ -123,7 +123,7 @@ pub extern "C" fn ffw_status(w: Witness, place: Place) -> Answered
 pub extern "C" fn ffw_support(w: Witness, source: Place, target: Place) -> Backed
     ensures { λ r. ⌜ IsBacked (supportCall w (source .0) (target .0)) r ⌝ }
 {
-    match witness::support(w, source, target) {
+    match answers::support(w, source, target) {
         SupportAnswer::Is(b) => {
             let number = b.number as u64;
             let quorum = b.quorum as u64;
@@ -148,7 +148,7 @@ pub extern "C" fn ffw_support(w: Witness, source: Place, target: Place) -> Backe
 pub extern "C" fn ffw_conflict(w: Witness) -> Answered
     ensures { λ r. ⌜ IsAnswered yesNumber (conflictCall w) r ⌝ }
 {
-    match witness::conflict(w) {
+    match answers::conflict(w) {
         ConflictAnswer::Is(yes) => Answered {
             refused: 0,
             value: yes as u64,
@@ -168,7 +168,7 @@ pub extern "C" fn ffw_list(w: Witness, buf: &mut [u8]) -> Answered
         × (now (buf .exit) ≡ writeBuffer ourList w (now (buf .entry)))
         ⌝ }
 {
-    codes::tell_length(witness::write_list(w, buf))
+    codes::tell_length(answers::write_list(w, buf))
 }
 
 // The board paper into a lent buffer: its length; rows 40 and 60, which leave the buffer unwritten.
@@ -179,7 +179,7 @@ pub extern "C" fn ffw_paper(w: Witness, buf: &mut [u8]) -> Answered
         × (now (buf .exit) ≡ writeBuffer paper w (now (buf .entry)))
         ⌝ }
 {
-    codes::tell_length(witness::write_paper(w, buf))
+    codes::tell_length(answers::write_paper(w, buf))
 }
 
 // Checking a list of charges: the sum of the named bonds; rows 40 and 50 to 57.
@@ -187,7 +187,7 @@ pub extern "C" fn ffw_paper(w: Witness, buf: &mut [u8]) -> Answered
 pub extern "C" fn ffw_check(w: Witness, list: &[u8]) -> Answered
     ensures { λ r. ⌜ IsAnswered (λ n. n) (checkCall w (now (list .entry))) r ⌝ }
 {
-    match witness::check_list(w, list) {
+    match answers::check_list(w, list) {
         CheckAnswer::Sum(n) => Answered {
             refused: 0,
             value: n,

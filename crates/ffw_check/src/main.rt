@@ -23,7 +23,7 @@ fn say(words: &[u8], n: u64)
 }
 
 fn say_answer(w: Witness, list: &[u8]) {
-    match witness::check_list(w, list) {
+    match answers::check_list(w, list) {
         CheckAnswer::Sum(n) => say(b"sum ", n),
         CheckAnswer::Refused(r) => say(b"refused ", refusals::refusal_number(r) as u64),
     }

@@ -1,6 +1,9 @@
 // A witness filled to its limits: a log made by a formula, with 128 members, 512 checkpoints, 4,096 votes and one more
 // of each, is read whole and asked. The formula gives the byte at each offset. The file `stdout` is what expected.py
 // prints, which makes the same log by the same formula and answers by code of its own.
+use answers::ConflictAnswer;
+use answers::StatusAnswer;
+use answers::SupportAnswer;
 use checker::CheckAnswer;
 use libc::STDOUT_FILENO;
 use model::Place;
@@ -9,9 +12,6 @@ use model::Status;
 use model::WriteAnswer;
 use state::Outcome;
 use state::Witness;
-use witness::ConflictAnswer;
-use witness::StatusAnswer;
-use witness::SupportAnswer;
 ghost use mathlib.Core.Path.{_≡_};
 ghost use Prim.Native.Nat.{_+_, _≤_, _<_};
 ghost use lib.ListN.{length};
@@ -463,7 +463,7 @@ fn say_reading(w: Witness, log: &[u8], at: usize) {
 }
 
 fn say_status(w: Witness, p: u16) {
-    match witness::status(w, Place(p)) {
+    match answers::status(w, Place(p)) {
         StatusAnswer::Is(s) => match s {
             Status::Plain => {
                 io::write_all(STDOUT_FILENO, b"p");
@@ -495,7 +495,7 @@ fn say_support(w: Witness, s: u16, t: u16) {
     say(b"", s as u64);
     say(b" ", t as u64);
     io::write_all(STDOUT_FILENO, b": ");
-    match witness::support(w, Place(s), Place(t)) {
+    match answers::support(w, Place(s), Place(t)) {
         SupportAnswer::Is(b) => {
             say(b"", b.number as u64);
             say(b" ", b.bonds);
@@ -530,7 +530,7 @@ fn say_pairs(w: Witness) {
 }
 
 fn say_conflict(w: Witness) {
-    match witness::conflict(w) {
+    match answers::conflict(w) {
         ConflictAnswer::Is(b) => {
             if b {
                 io::write_all(STDOUT_FILENO, b"conflict yes\n");
@@ -577,7 +577,7 @@ fn say_charges(w: Witness, buf: &[u8], n: usize) {
     }
     let list = &buf[..n];
     say_entries(list);
-    match witness::check_list(w, list) {
+    match answers::check_list(w, list) {
         CheckAnswer::Sum(sum) => {
             say(b"named ", sum);
             end_line();
@@ -589,7 +589,7 @@ fn say_charges(w: Witness, buf: &[u8], n: usize) {
 // Our list, which has room for every member.
 fn say_list(w: Witness) {
     let mut buf = [0u8; 775];
-    match witness::write_list(w, &mut buf) {
+    match answers::write_list(w, &mut buf) {
         WriteAnswer::Length(n) => say_charges(w, &buf, n),
         WriteAnswer::Refused(r) => say_refused(r),
     }

@@ -32,8 +32,11 @@ use Rattle.state.specs.declared.Witness.{Witness}
 use Rattle.state.proofs.Kept.{event-kept, event-sound}
 use Rattle.state.proofs.Sound.{sound-true, true-sound}
 use Rattle.state.proofs.Started.{empty-model, empty-sound, header-name}
-use Rattle.witness.specs.Calls.{onSound, eventCall, statusCall, supportCall, conflictCall, writeCall, writeBuffer, checkCall}
-use Rattle.witness.proofs.Guarded.{on-sound, sound-event}
+use Rattle.sound.specs.Held.{onSound}
+use Rattle.sound.proofs.Guarded.{on-sound}
+use Rattle.witness.specs.Calls.{eventCall}
+use Rattle.witness.proofs.Guarded.{sound-event}
+use Rattle.answers.specs.Calls.{statusCall, supportCall, conflictCall, writeCall, writeBuffer, checkCall}
 use Rattle.guarantee.specs.Demand2.{ByTheRules, Demand2}
 use Rattle.guarantee.specs.Demand3.{witnessAfter, toldOf, Guarantee, Demand3}
 use Rattle.guarantee.specs.LogRead.{recordsOf, replayed, LogIsRun, LogIsWhole}

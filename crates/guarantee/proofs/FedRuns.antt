@@ -25,9 +25,11 @@ use Rattle.reader.specs.Many.{endedBy, nonePassed}
 use Rattle.reader.proofs.Made.{length-inside}
 use Rattle.state.specs.Sound.{Sound, sound?}
 use Rattle.state.proofs.Sound.{sound-true}
-use Rattle.witness.specs.Calls.{held, decideOn, eventCall, writeCall, writeBuffer}
+use Rattle.sound.specs.Held.{held}
+use Rattle.witness.specs.Calls.{decideOn, eventCall}
 use Rattle.witness.specs.Readings.{manyCall}
-use Rattle.witness.proofs.Placed.{write-40}
+use Rattle.answers.specs.Calls.{writeCall, writeBuffer}
+use Rattle.answers.proofs.Placed.{write-40}
 use Rattle.feeding.specs.Feed.{Paused, wants, full, outOfNumbers, ended, refusedBy, Feeding, pausedAt, ahead, lineRoom, recordRoom, lastNumber, spent, halted, headed, openCall, feedCall, endFed, endCall, endText}
 use Rattle.feeding.specs.Feed as Feed
 use Rattle.pieces.proofs.ByRecord.{call-elim, Halts, nothing-left, unknown, cut, halts, unknown-decided, cut-decided}

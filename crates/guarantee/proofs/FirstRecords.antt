@@ -19,7 +19,8 @@ use Rattle.reader.specs.Many.{behind}
 use Rattle.model.proofs.Bytes.{drop-bytes}
 use Rattle.state.specs.Sound.{Sound}
 use Rattle.state.proofs.Sound.{true-sound}
-use Rattle.witness.specs.Calls.{held, decideOn, eventCall}
+use Rattle.sound.specs.Held.{held}
+use Rattle.witness.specs.Calls.{decideOn, eventCall}
 use Rattle.pieces.proofs.Prefix.{SameFront, whole-front}
 use Rattle.guarantee.specs.CallsAreRuns.{firstRecords, behindRecords, Whole, no-record, one-record, RunGoesOn}
 use Rattle.guarantee.specs.Demand3.{witnessAfter, Guarantee}

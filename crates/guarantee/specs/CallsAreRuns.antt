@@ -21,8 +21,9 @@ use Rattle.state.specs.State.{emptyWitness, modelOf, stored}
 use Rattle.state.specs.declared.Witness.{Witness}
 use Rattle.entries.specs.Entries.{entries}
 use Rattle.reader.specs.Many.{spent, endedBy, Many, nonePassed}
-use Rattle.witness.specs.Calls.{eventCall, writeCall, writeBuffer}
+use Rattle.witness.specs.Calls.{eventCall}
 use Rattle.witness.specs.Readings.{manyCall}
+use Rattle.answers.specs.Calls.{writeCall, writeBuffer}
 use Rattle.feeding.specs.Feed.{Paused, wants, full, outOfNumbers, ended, refusedBy, Feeding, pausedAt}
 use Rattle.feeding.specs.Feed.{lineRoom, recordRoom, lastNumber, openCall, feedCall, endCall}
 use Rattle.pieces.specs.Pieces.{Piece}

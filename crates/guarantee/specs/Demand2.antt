@@ -21,7 +21,7 @@ use Rattle.safety.specs.Share.{NamesViolators}
 use Rattle.state.specs.Sound.{Typed, sound?}
 use Rattle.state.specs.State.{modelOf}
 use Rattle.state.specs.declared.Witness.{Witness}
-use Rattle.witness.specs.Calls.{statusCall, supportCall, conflictCall, writeCall, writeBuffer, checkCall}
+use Rattle.answers.specs.Calls.{statusCall, supportCall, conflictCall, writeCall, writeBuffer, checkCall}
 
 -- every call on `w` answers for the model `b`
 pub record ByTheRules (w : Witness) (b : Model) : Type 0 where

@@ -50,7 +50,7 @@ pub fn print_list(log: Log) {
     if is_whole(log) {
         let held = log.witness;
         let mut buf = [0u8; 775];
-        let n = length_of(witness::write_list(held, &mut buf), 775);
+        let n = length_of(answers::write_list(held, &mut buf), 775);
         print(&buf, n);
     }
 }
@@ -60,7 +60,7 @@ pub fn print_paper(log: Log) {
     if is_whole(log) {
         let held = log.witness;
         let mut buf = [0u8; 35750];
-        let n = length_of(witness::write_paper(held, &mut buf), 35750);
+        let n = length_of(answers::write_paper(held, &mut buf), 35750);
         print(&buf, n);
     }
 }

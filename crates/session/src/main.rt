@@ -1,6 +1,9 @@
 // The worked session of document 01, read record by record: what each reading comes to, then the standings, the
 // conflict answer, our list and what the checker says of it. Then the same log by the calls that read many records: in
 // batches, whole, and asked.
+use answers::ConflictAnswer;
+use answers::StatusAnswer;
+use answers::SupportAnswer;
 use checker::CheckAnswer;
 use libc::STDOUT_FILENO;
 use model::Place;
@@ -11,9 +14,6 @@ use reader::Batch;
 use reader::End;
 use state::Outcome;
 use state::Witness;
-use witness::ConflictAnswer;
-use witness::StatusAnswer;
-use witness::SupportAnswer;
 
 const LOG: [u8; 1005] = [
     70,
@@ -1096,11 +1096,11 @@ fn say_standing(a: StatusAnswer) {
 }
 
 fn say_status(w: Witness, p: u16) {
-    say_standing(witness::status(w, Place(p)));
+    say_standing(answers::status(w, Place(p)));
 }
 
 fn say_support(w: Witness, s: u16, t: u16) {
-    match witness::support(w, Place(s), Place(t)) {
+    match answers::support(w, Place(s), Place(t)) {
         SupportAnswer::Is(b) => {
             io::print_decimal(STDOUT_FILENO, b.number as u64);
             io::write_all(STDOUT_FILENO, b" members, bonds ");
@@ -1169,13 +1169,13 @@ fn say_check(w: Witness, s: &[u8]) {
     if s.len() < 13 {
         return;
     }
-    say_sum(witness::check_list(w, &s[..13]));
+    say_sum(answers::check_list(w, &s[..13]));
 }
 
 // Our list in a buffer of 16 bytes, whole, and what the checker says of it.
 fn say_list(w: Witness) {
     let mut buf = [255u8; 16];
-    let answer = witness::write_list(w, &mut buf);
+    let answer = answers::write_list(w, &mut buf);
     say_written(answer, &buf);
     say_check(w, &buf);
 }
@@ -1212,7 +1212,7 @@ fn say_batch(w: Witness, log: &[u8], at: usize) -> Batch {
 fn say_batches(w: Witness, log: &[u8]) {
     let first = say_batch(w, log, 37);
     let second = say_batch(first.witness, log, first.next);
-    say_conflict(witness::conflict(second.witness));
+    say_conflict(answers::conflict(second.witness));
 }
 
 // Its first 50 bytes, of which the last two are a cut record.
@@ -1254,14 +1254,14 @@ fn main() {
     say_support(w, 0, 2);
     say_support(w, 2, 4);
     say_support(w, 1, 2);
-    say_conflict(witness::conflict(w));
+    say_conflict(answers::conflict(w));
     say_list(w);
     let replayed = replay::replay(blank::blank(), &LOG, 64);
     let read = replayed.read;
     let last = read.last;
     let whole = read.witness;
     say_reading(read.records, last);
-    say_conflict(witness::conflict(whole));
+    say_conflict(answers::conflict(whole));
     say_list(whole);
     say_batches(begun.witness, &LOG);
     say_cut(begun.witness, &LOG);

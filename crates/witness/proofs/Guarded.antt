@@ -1,12 +1,11 @@
--- What row 40 makes of a call's answer, once the state's soundness is known.
+-- What row 40 makes of what is decided and read, once the state's soundness is known.
 use Prim.Native.Nat.{ℕ, _+_}
 use native.Mathlib.Nat.{add-zero}
 use mathlib.Core.Path.{_≡_, refl, sym, ap, _∙_}
 use mathlib.Core.List.{List, flatMap}
-use mathlib.Core.Bool.{Bool, true, false, cond, not}
-use borrow.Author.Tests.{not-true, not-false}
+use mathlib.Core.Bool.{Bool, true, false, cond}
 use lib.ListN.{replicate}
-use Rattle.model.specs.Answer.{Answer, refused, answer, row, andThen}
+use Rattle.model.specs.Answer.{Answer, refused}
 use Rattle.model.specs.Change.{Decision, single}
 use Rattle.model.specs.Decide.{decide}
 use Rattle.model.specs.Log.{recordLength}
@@ -14,46 +13,17 @@ use Rattle.model.specs.Model.{Model}
 use Rattle.model.specs.Run.{Event, reading, decideEvent}
 use Rattle.model.specs.declared.Refusal.the-variants.{UnsoundState}
 use Rattle.state.specs.Reading.{brief, rowsOfVotes, padded, IsReading}
-use Rattle.state.specs.Sound.{Typed, Sound, sound?}
+use Rattle.state.specs.Sound.{sound?}
 use Rattle.state.specs.State.{modelOf, storeAll, stored}
 use Rattle.state.specs.declared.Outcome.the-variants.{Nothing, Refused}
 use Rattle.state.specs.declared.Reading.{Reading}
 use Rattle.state.specs.declared.Witness.{Witness}
-use Rattle.state.proofs.Sound.{sound-true}
+use Rattle.sound.proofs.Guarded.{held-unsound, held-sound}
 use Rattle.reader.specs.Many.{readMany, lastTold, IsBatch}
 use Rattle.reader.specs.declared.Batch.{Batch}
 use Rattle.reader.specs.declared.End.the-variants.{EndedBy}
-use Rattle.witness.specs.Calls.{held, onSound, decideOn, eventCall}
+use Rattle.witness.specs.Calls.{decideOn, eventCall}
 use Rattle.witness.specs.Readings.{passed, manyCall}
-
--- what `is_sound` said of the state, and the branch on it
-module _ (w : Witness) {r : Bool} (said : (r ≡ sound? w) × Typed w) where
-  pub passes-40 : not r ≡ false → sound? w ≡ true
-  passes-40 e = sym (said .0) ∙ not-false r e
-
-  pub meets-40 : not r ≡ true → sound? w ≡ false
-  meets-40 e = sym (said .0) ∙ not-true r e
-
-  pub good-state : not r ≡ false → Sound w
-  good-state e = sound-true w (said .1) (passes-40 e)
-
-module _ (w : Witness) where
-  held-unsound : sound? w ≡ false → held w ≡ refused 40
-  unfolding held row
-  held-unsound e = rw e
-
-  held-sound : sound? w ≡ true → held w ≡ answer (modelOf w)
-  unfolding held row
-  held-sound e = rw e
-
-module _ {A : Type 0} (w : Witness) (answers : Model → Answer A) where
-  pub on-unsound : sound? w ≡ false → onSound w answers ≡ refused 40
-  unfolding andThen
-  on-unsound e = ap (λ (h : Answer Model). andThen h answers) (held-unsound w e)
-
-  pub on-sound : sound? w ≡ true → onSound w answers ≡ answers (modelOf w)
-  unfolding andThen
-  on-sound e = ap (λ (h : Answer Model). andThen h answers) (held-sound w e)
 
 -- an event
 module _ (w : Witness) (e : Event) where

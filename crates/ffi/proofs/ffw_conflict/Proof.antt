@@ -1,7 +1,7 @@
 -- `ffi::ffw_conflict` meets its contract: the conflict answer, told in numbers. Assumes nothing.
 use mathlib.Core.Path.{sym, ap, _∙_}
 use Rattle.codes.specs.Numbers.{yesNumber}
-use Rattle.witness.specs.Answers.{conflictOf}
+use Rattle.answers.specs.Answers.{conflictOf}
 use Rattle.codes.proofs.Told.{byte-of, tell-refused, tell-value}
 use borrow.Author.Needs.{needs}
 use Rattle.ffi.proofs.ffw_conflict.Statement.{statement}

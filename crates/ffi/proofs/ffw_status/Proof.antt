@@ -1,7 +1,7 @@
 -- `ffi::ffw_status` meets its contract: the standing, told in numbers. Assumes nothing.
 use mathlib.Core.Path.{sym, ap, _∙_}
 use Rattle.codes.specs.Numbers.{statusNumber}
-use Rattle.witness.specs.Answers.{statusOf}
+use Rattle.answers.specs.Answers.{statusOf}
 use Rattle.codes.proofs.Told.{tell-refused, tell-value}
 use borrow.Author.Needs.{needs}
 use Rattle.ffi.proofs.ffw_status.Statement.{statement}

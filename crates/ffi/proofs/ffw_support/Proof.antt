@@ -1,7 +1,7 @@
 -- `ffi::ffw_support` meets its contract: the backing, told in numbers. Assumes nothing.
 use mathlib.Core.Path.{sym, ap, _∙_}
 use Rattle.finality.specs.Answers.{backingOf}
-use Rattle.witness.specs.Answers.{supportOf}
+use Rattle.answers.specs.Answers.{supportOf}
 use Rattle.codes.proofs.Told.{byte-of, back-refused, back-value}
 use borrow.Author.Needs.{needs}
 use Rattle.ffi.proofs.ffw_support.Statement.{statement}

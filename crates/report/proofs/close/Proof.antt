@@ -2,7 +2,7 @@
 use mathlib.Core.Path.{ap}
 use mathlib.Core.Bool.{true, false, not}
 use borrow.Author.Needs.{needs}
-use Rattle.witness.proofs.Guarded.{passes-40, meets-40, good-state}
+use Rattle.sound.proofs.Guarded.{passes-40, meets-40, good-state}
 use Rattle.feeding.specs.Feed.{endCall}
 use Rattle.report.proofs.Ends.{on-sound}
 use Rattle.report.proofs.close.Statement.{statement}

@@ -1,7 +1,7 @@
 -- `report::feed` meets its contract. Assumes nothing.
 use mathlib.Core.Bool.{true, false}
 use borrow.Author.Needs.{needs}
-use Rattle.witness.proofs.Guarded.{passes-40, meets-40, good-state}
+use Rattle.sound.proofs.Guarded.{passes-40, meets-40, good-state}
 use Rattle.feeding.specs.Feed.{feedCall}
 use Rattle.report.proofs.Ends.{on-sound}
 use Rattle.report.proofs.feed.Statement.{statement}

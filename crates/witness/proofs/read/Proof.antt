@@ -1,7 +1,8 @@
 -- `witness::read` meets its contract: row 40, then the record reader. Assumes nothing.
 use borrow.Author.Needs.{needs}
 use lib.ListN.{drop}
-use Rattle.witness.proofs.Guarded.{passes-40, meets-40, good-state, unsound-reading, sound-reading}
+use Rattle.sound.proofs.Guarded.{passes-40, meets-40, good-state}
+use Rattle.witness.proofs.Guarded.{unsound-reading, sound-reading}
 use Rattle.witness.proofs.read.Statement.{statement}
 use Rattle.witness.proofs.read.Tie as tie
 

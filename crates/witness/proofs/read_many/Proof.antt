@@ -1,6 +1,7 @@
 -- `witness::read_many` meets its contract: row 40, then reading on. Assumes nothing.
 use borrow.Author.Needs.{needs}
-use Rattle.witness.proofs.Guarded.{passes-40, meets-40, good-state, many-unsound, many-sound}
+use Rattle.sound.proofs.Guarded.{passes-40, meets-40, good-state}
+use Rattle.witness.proofs.Guarded.{many-unsound, many-sound}
 use Rattle.witness.proofs.read_many.Statement.{statement}
 use Rattle.witness.proofs.read_many.Tie as tie
 

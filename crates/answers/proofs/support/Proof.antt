@@ -1,14 +1,14 @@
--- `witness::support` meets its contract: rows 40 and 41, then the support. Assumes nothing.
+-- `answers::support` meets its contract: rows 40 and 41, then the support. Assumes nothing.
 use mathlib.Core.Path.{_≡_, refl, ap, _∙_}
 use mathlib.Core.Bool.{true}
 use borrow.Author.Needs.{needs}
 use borrow.Author.Tests.{lt-ltb, le-ltb}
 use Rattle.model.specs.Answer.{answer, row}
 use Rattle.state.specs.Sound.{sound?}
-use Rattle.witness.proofs.Guarded.{passes-40, meets-40, good-state}
-use Rattle.witness.proofs.Placed.{support-40, support-is}
-use Rattle.witness.proofs.support.Statement.{statement}
-use Rattle.witness.proofs.support.Tie as tie
+use Rattle.sound.proofs.Guarded.{passes-40, meets-40, good-state}
+use Rattle.answers.proofs.Placed.{support-40, support-is}
+use Rattle.answers.proofs.support.Statement.{statement}
+use Rattle.answers.proofs.support.Tie as tie
 
 -- the state passes row 40
 abbrev tested : tie.Else2 → tie.Else1

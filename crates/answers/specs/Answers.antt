@@ -5,12 +5,12 @@ use Rattle.model.specs.Refusals.{refusalNumber}
 use Rattle.model.specs.Support.{Support}
 use Rattle.model.specs.declared.Status.{Status}
 use Rattle.finality.specs.Answers.{backingOf}
-use Rattle.witness.specs.declared.StatusAnswer.{StatusAnswer}
-use Rattle.witness.specs.declared.StatusAnswer.the-variants.{Is as IsStatus, Refused as RefusedStatus}
-use Rattle.witness.specs.declared.SupportAnswer.{SupportAnswer}
-use Rattle.witness.specs.declared.SupportAnswer.the-variants.{Is as IsSupport, Refused as RefusedSupport}
-use Rattle.witness.specs.declared.ConflictAnswer.{ConflictAnswer}
-use Rattle.witness.specs.declared.ConflictAnswer.the-variants.{Is as IsConflict, Refused as RefusedConflict}
+use Rattle.answers.specs.declared.StatusAnswer.{StatusAnswer}
+use Rattle.answers.specs.declared.StatusAnswer.the-variants.{Is as IsStatus, Refused as RefusedStatus}
+use Rattle.answers.specs.declared.SupportAnswer.{SupportAnswer}
+use Rattle.answers.specs.declared.SupportAnswer.the-variants.{Is as IsSupport, Refused as RefusedSupport}
+use Rattle.answers.specs.declared.ConflictAnswer.{ConflictAnswer}
+use Rattle.answers.specs.declared.ConflictAnswer.the-variants.{Is as IsConflict, Refused as RefusedConflict}
 
 abbrev pub statusOf : StatusAnswer → Answer Status
 statusOf (IsStatus s) = answer s

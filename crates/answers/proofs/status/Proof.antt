@@ -1,12 +1,12 @@
--- `witness::status` meets its contract: rows 40 and 41, then the status. Assumes nothing.
+-- `answers::status` meets its contract: rows 40 and 41, then the status. Assumes nothing.
 use mathlib.Core.Path.{ap, _∙_}
 use borrow.Author.Needs.{needs}
 use borrow.Author.Tests.{lt-ltb, le-ltb}
 use Rattle.model.specs.Answer.{answer, row}
-use Rattle.witness.proofs.Guarded.{passes-40, meets-40, good-state}
-use Rattle.witness.proofs.Placed.{status-40, status-is}
-use Rattle.witness.proofs.status.Statement.{statement}
-use Rattle.witness.proofs.status.Tie as tie
+use Rattle.sound.proofs.Guarded.{passes-40, meets-40, good-state}
+use Rattle.answers.proofs.Placed.{status-40, status-is}
+use Rattle.answers.proofs.status.Statement.{statement}
+use Rattle.answers.proofs.status.Tie as tie
 
 is-sound-requires : tie.Need-is-sound-requires
 is-sound-requires c κs = search needs

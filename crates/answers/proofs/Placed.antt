@@ -14,8 +14,8 @@ use Rattle.state.specs.State.{modelOf}
 use Rattle.state.specs.declared.Witness.{Witness}
 use Rattle.state.proofs.Entries.{count-checkpoints}
 use Rattle.model.specs.declared.WriteAnswer.{WriteAnswer}
-use Rattle.witness.specs.Calls.{statusCall, supportCall, conflictCall, writeCall, writeBuffer}
-use Rattle.witness.proofs.Guarded.{on-unsound, on-sound}
+use Rattle.answers.specs.Calls.{statusCall, supportCall, conflictCall, writeCall, writeBuffer}
+use Rattle.sound.proofs.Guarded.{on-unsound, on-sound}
 
 module _ (w : Witness) where
   -- whether a place is held, by the count

@@ -1,11 +1,11 @@
--- `witness::conflict` meets its contract: row 40, then the conflict answer. Assumes nothing.
+-- `answers::conflict` meets its contract: row 40, then the conflict answer. Assumes nothing.
 use mathlib.Core.Path.{ap, _∙_}
 use borrow.Author.Needs.{needs}
 use Rattle.model.specs.Answer.{answer}
-use Rattle.witness.proofs.Guarded.{passes-40, meets-40, good-state}
-use Rattle.witness.proofs.Placed.{conflict-40, conflict-is}
-use Rattle.witness.proofs.conflict.Statement.{statement}
-use Rattle.witness.proofs.conflict.Tie as tie
+use Rattle.sound.proofs.Guarded.{passes-40, meets-40, good-state}
+use Rattle.answers.proofs.Placed.{conflict-40, conflict-is}
+use Rattle.answers.proofs.conflict.Statement.{statement}
+use Rattle.answers.proofs.conflict.Tie as tie
 
 is-sound-requires : tie.Need-is-sound-requires
 is-sound-requires c κs = search needs

@@ -1,11 +1,11 @@
--- `witness::check_list` meets its contract: row 40, then the checker. Assumes nothing.
+-- `answers::check_list` meets its contract: row 40, then the checker. Assumes nothing.
 use mathlib.Core.Path.{sym, _∙_}
 use borrow.Author.Needs.{needs}
 use Rattle.model.specs.Checker.{check}
-use Rattle.witness.specs.Calls.{checkCall}
-use Rattle.witness.proofs.Guarded.{passes-40, meets-40, good-state, on-unsound, on-sound}
-use Rattle.witness.proofs.check_list.Statement.{statement}
-use Rattle.witness.proofs.check_list.Tie as tie
+use Rattle.answers.specs.Calls.{checkCall}
+use Rattle.sound.proofs.Guarded.{passes-40, meets-40, good-state, on-unsound, on-sound}
+use Rattle.answers.proofs.check_list.Statement.{statement}
+use Rattle.answers.proofs.check_list.Tie as tie
 
 is-sound-requires : tie.Need-is-sound-requires
 is-sound-requires c κs = search needs

@@ -1,11 +1,11 @@
--- `witness::write_list` meets its contract: row 40, then the list writer. Assumes nothing.
+-- `answers::write_list` meets its contract: row 40, then the list writer. Assumes nothing.
 use mathlib.Core.Path.{_∙_}
 use borrow.Author.Needs.{needs}
 use Rattle.model.specs.Evidence.{ourList}
-use Rattle.witness.proofs.Guarded.{passes-40, meets-40, good-state}
-use Rattle.witness.proofs.Placed.{write-40, write-is}
-use Rattle.witness.proofs.write_list.Statement.{statement}
-use Rattle.witness.proofs.write_list.Tie as tie
+use Rattle.sound.proofs.Guarded.{passes-40, meets-40, good-state}
+use Rattle.answers.proofs.Placed.{write-40, write-is}
+use Rattle.answers.proofs.write_list.Statement.{statement}
+use Rattle.answers.proofs.write_list.Tie as tie
 
 is-sound-requires : tie.Need-is-sound-requires
 is-sound-requires c κs = search needs
