@@ -3,7 +3,7 @@ use Prim.Native.Nat.{ℕ, _+_}
 use mathlib.Core.Path.{_≡_}
 use mathlib.Core.List.{List}
 use mathlib.Core.Bool.{Bool, cond}
-use Rattle.model.specs.Answer.{Answer, refused, answer}
+use Rattle.model.specs.Answer.{Answer, refused, answer, rowOf}
 use Rattle.model.specs.Change.{Decision}
 use Rattle.model.specs.Support.{Support}
 use Rattle.model.specs.declared.Status.{Status}
@@ -21,11 +21,6 @@ use Rattle.codes.specs.declared.Read.{Read}
 use Rattle.codes.specs.declared.Replay.{Replay}
 use Rattle.codes.specs.declared.Piece.{Piece}
 use Rattle.codes.specs.declared.Tells.{Tells}
-
--- the number of the refusal, 0 where there is none
-abbrev pub refusalOf : {A : Type 0} → Answer A → ℕ
-refusalOf (refused n) = n
-refusalOf (answer a) = 0
 
 -- the value as a number, 0 where the call is refused
 abbrev pub valueOf : {A : Type 0} → (A → ℕ) → Answer A → ℕ
@@ -61,30 +56,30 @@ pauseNumber outOfNumbers = 3
 pauseNumber (refusedBy n) = 256 + n
 
 pub record IsAnswered {A : Type 0} (number : A → ℕ) (a : Answer A) (r : Answered) : Type 0 where
-  pub refused : r .refused ≡ refusalOf a
+  pub refused : r .refused ≡ rowOf a
   pub value : r .value ≡ valueOf number a
 
 pub record IsBacked (a : Answer Support) (r : Backed) : Type 0 where
-  pub refused : r .refused ≡ refusalOf a
+  pub refused : r .refused ≡ rowOf a
   pub number : r .number ≡ valueOf (λ b. b .number) a
   pub bonds : r .bonds ≡ valueOf (λ b. b .bonds) a
   pub quorum : r .quorum ≡ valueOf (λ b. yesNumber (b .yes?)) a
 
 -- `h` is what the header says, and `w` the witness afterwards
 pub record IsBegun (h : Answer (List ℕ)) (w : Witness) (r : Begun) : Type 0 where
-  pub refused : r .refused ≡ refusalOf h
+  pub refused : r .refused ≡ rowOf h
   pub witness : r .witness ≡ w
 
 -- what a record came to
 pub record IsTold (a : Answer Brief) (r : Tells) : Type 0 where
-  pub refused : r .refused ≡ refusalOf a
+  pub refused : r .refused ≡ rowOf a
   pub taken : r .taken ≡ valueOf takenNumber a
   pub votes : r .votes ≡ valueOf votesNumber a
 
 -- `h` is what the header says, and `rs` what the records after it come to
 pub record IsReplayed (h : Answer (List ℕ)) (rs : Reads) (r : Replay) : Type 0 where
-  pub header : r .header ≡ refusalOf h
-  pub refused : r .refused ≡ refusalOf (brief (rs .last))
+  pub header : r .header ≡ rowOf h
+  pub refused : r .refused ≡ rowOf (brief (rs .last))
   pub taken : r .taken ≡ valueOf takenNumber (brief (rs .last))
   pub votes : r .votes ≡ valueOf votesNumber (brief (rs .last))
   pub rows : r .rows ≡ padded (rowsOfVotes (rs .last))
@@ -93,7 +88,7 @@ pub record IsReplayed (h : Answer (List ℕ)) (rs : Reads) (r : Replay) : Type 0
 
 -- `d` is what is decided on the record, and `after` the offset to go on from
 pub record IsRead (w : Witness) (d : Decision) (after : ℕ) (r : Read) : Type 0 where
-  pub refused : r .refused ≡ refusalOf (brief (d .told))
+  pub refused : r .refused ≡ rowOf (brief (d .told))
   pub taken : r .taken ≡ valueOf takenNumber (brief (d .told))
   pub votes : r .votes ≡ valueOf votesNumber (brief (d .told))
   pub rows : r .rows ≡ padded (rowsOfVotes (d .told))

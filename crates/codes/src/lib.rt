@@ -11,11 +11,12 @@ use state::Witness;
 ghost use mathlib.Core.Path.{_≡_};
 ghost use mathlib.Core.List.{List};
 ghost use Prim.Native.Nat.{ℕ};
+ghost use Rattle.model.specs.Answer.{rowOf};
 ghost use Rattle.model.specs.Buffer.{writeAnswerOf};
 ghost use Rattle.model.specs.Refusals.{refusalNumber};
 ghost use Rattle.state.specs.Reading.{outcomeOf, startOf};
 ghost use Rattle.feeding.specs.Feed.{Feeding, IsFed, pausedOf};
-ghost use Rattle.codes.specs.Numbers.{refusalOf, statusNumber, pauseNumber, IsAnswered, IsTold, IsPiece};
+ghost use Rattle.codes.specs.Numbers.{statusNumber, pauseNumber, IsAnswered, IsTold, IsPiece};
 
 // An answer: the number of the refusal and 0, or 0 and the value.
 #[repr(C)]
@@ -88,7 +89,7 @@ pub fn number(r: Refusal) -> u64
 
 // The number of the refusal of a header; 0 where there is none.
 pub fn start_number(s: Start) -> u64
-    ensures { λ n. ⌜ ((name : List ℕ) → n ≡ refusalOf (startOf name s)) ⌝ }
+    ensures { λ n. ⌜ ((name : List ℕ) → n ≡ rowOf (startOf name s)) ⌝ }
 {
     match s {
         Start::Begun => 0,

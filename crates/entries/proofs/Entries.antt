@@ -9,9 +9,9 @@ use borrow.Table.Elements.{map-app}
 use lib.Dec.{eqb}
 use lib.ListN.{length, drop, take, set, getD, replicate, length-drop, length-append, length-map}
 use lib.Seq.{drop-cons, drop-drop, set-at, take-at, drop-append-add}
-use Rattle.model.specs.Answer.{Answer, refused, answer}
+use Rattle.model.specs.Answer.{Answer, refused, answer, rowOf}
 use Rattle.model.specs.Change.{Told, nothingLeft, taken}
-use Rattle.state.specs.Reading.{rowOf, brief}
+use Rattle.state.specs.Reading.{brief}
 use Rattle.entries.specs.Entries.{later, marked, rowsOf, entriesOf, entries}
 
 -- the first `end` of the bytes lent are these, and the others are as they were

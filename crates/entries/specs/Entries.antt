@@ -4,10 +4,9 @@
 -- does.
 use Prim.Native.Nat.{ℕ, _+_, _-_, _%_}
 use mathlib.Core.List.{List, [], _∷_, map, flatMap}
-use Rattle.model.specs.Answer.{Answer, refused, answer}
+use Rattle.model.specs.Answer.{Answer, refused, answer, rowOf}
 use Rattle.model.specs.Bytes.{part}
 use Rattle.model.specs.Change.{Told, nothingLeft, taken, bundled}
-use Rattle.state.specs.Reading.{rowOf}
 use Rattle.state.specs.declared.Outcome.{Outcome}
 use Rattle.state.specs.declared.Outcome.the-variants.{Nothing, Taken, Bundled, Refused}
 

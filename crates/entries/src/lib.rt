@@ -6,8 +6,9 @@ ghost use mathlib.Core.Path.{_≡_};
 ghost use mathlib.Core.Bool.{cond};
 ghost use Prim.Native.Nat.{_<_, _≤_};
 ghost use lib.ListN.{length};
+ghost use Rattle.model.specs.Answer.{rowOf};
 ghost use Rattle.model.specs.Limits.{memberLimit};
-ghost use Rattle.state.specs.Reading.{outcomeOf, rowOf, padded};
+ghost use Rattle.state.specs.Reading.{outcomeOf, padded};
 ghost use Rattle.ballots.specs.Ballot.{changeOf};
 ghost use Rattle.entries.specs.Entries.{later, votesIn, lastRows};
 

@@ -9,13 +9,12 @@ use borrow.Author.Tests.{eq-eqb, ne-eqb, lt-ltb, le-ltb, ltb-false}
 use lib.Dec.{eqb, ltb}
 use lib.ListN.{length, drop, getD, length-append}
 use lib.Seq.{drop-cons}
-use Rattle.model.specs.Answer.{Answer, refused, answer}
+use Rattle.model.specs.Answer.{Answer, refused, answer, rowOf}
 use Rattle.model.specs.Bytes.{ascii}
 use Rattle.model.specs.Change.{Told, nothingLeft, taken, bundled}
 use Rattle.model.specs.Lists.{All, none, each}
 use Rattle.model.specs.Report.{digits, decimal, newline, stops?, stoppedLine, refusedLine, bundleLines, outcomeLine, outcomeLines}
 use Rattle.model.proofs.Lists.{clash}
-use Rattle.state.specs.Reading.{rowOf}
 use Rattle.entries.specs.Entries.{later, marked, rowsOf, entriesOf, entries}
 use Rattle.entries.proofs.Entries.{marked-length}
 use Rattle.reader.proofs.Told.{Named, Rowed}

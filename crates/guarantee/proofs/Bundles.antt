@@ -8,7 +8,7 @@ use mathlib.Core.Logic.{_⊎_, inl, inr, ⊎-elim}
 use borrow.Author.Tests.{eqb-true, ne-eqb, ltb-true, ltb-false}
 use lib.ListN.{length, getD, length-map}
 use lib.Dec.{eqb, leb, ltb}
-use Rattle.model.specs.Answer.{Answer, refused, answer, row}
+use Rattle.model.specs.Answer.{Answer, refused, answer, row, rowOf}
 use Rattle.model.specs.Bits.{setPlaces}
 use Rattle.model.specs.Bundle.{votesOf, GoodBundle, OfVote, is-taken, is-refused}
 use Rattle.model.specs.Bytes.{part, field}
@@ -30,7 +30,7 @@ use Rattle.model.proofs.Lists.{clash}
 use Rattle.model.proofs.Log.{begins-cut}
 use Rattle.model.proofs.Rows.{bundle-elim}
 use Rattle.model.proofs.Run.{vote-kept}
-use Rattle.state.specs.Reading.{manyVotes, brief, rowOf, rowsOfVotes}
+use Rattle.state.specs.Reading.{manyVotes, brief, rowsOfVotes}
 use Rattle.state.specs.Sound.{Typed, Sound, sound?}
 use Rattle.state.specs.State.{modelOf, storeAll, stored}
 use Rattle.state.specs.declared.Witness.{Witness}

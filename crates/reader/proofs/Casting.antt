@@ -9,14 +9,13 @@ use borrow.Table.Elements.{map-app}
 use lib.Dec.{eqb}
 use lib.ListN.{length, drop, take, set, getD, length-append, length-map, take-append-drop}
 use lib.Seq.{length-take-le}
-use Rattle.model.specs.Answer.{Answer}
+use Rattle.model.specs.Answer.{Answer, rowOf}
 use Rattle.model.specs.Bits.{bitSet, setPlaces}
 use Rattle.model.specs.Change.{Change, Decision, oneVote, together}
 use Rattle.model.specs.Decide.{bundleIds}
 use Rattle.model.specs.Lists.{concatBelow}
 use Rattle.model.specs.Model.{Model, Link, Member, memberAt}
 use Rattle.model.proofs.Fits.{fit-votes}
-use Rattle.state.specs.Reading.{rowOf}
 use Rattle.state.specs.Sound.{Typed, Sound}
 use Rattle.state.specs.State.{modelOf, storeAll, stored}
 use Rattle.state.specs.declared.Witness.{Witness}

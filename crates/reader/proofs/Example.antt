@@ -4,7 +4,7 @@ use Prim.Native.Nat.{ℕ}
 use mathlib.Core.Path.{_≡_, refl}
 use mathlib.Core.List.{List, [], _∷_, _++_, flatMap}
 use lib.ListN.{take, replicate}
-use Rattle.model.specs.Answer.{Answer, refused, answer, row, andThen}
+use Rattle.model.specs.Answer.{Answer, refused, answer, row, andThen, rowOf}
 use Rattle.model.specs.Bits.{bitSet, setPlaces}
 use Rattle.model.specs.Bytes.{field, beOf}
 use Rattle.model.specs.Change.{Told, taken, bundled, single, appendAll, oneVote, together, whole}
@@ -13,7 +13,7 @@ use Rattle.model.specs.Decide.{bundleIds, bitWithoutMember, noBitSet, decideBun
 use Rattle.model.specs.Lists.{any, firstIndex, tabulate, sameBytes, concatBelow}
 use Rattle.model.specs.Log.{kindOf, sizeOf, decodeAs, recordSize, recordLength, decode}
 use Rattle.model.specs.Model.{memberIndex, idHeld, nameHeld, memberAt, placeOf}
-use Rattle.state.specs.Reading.{manyVotes, brief, rowOf, rowsOfVotes, padded}
+use Rattle.state.specs.Reading.{manyVotes, brief, rowsOfVotes, padded}
 use Rattle.state.specs.State.{emptyWitness, modelOf, withMember, store, storeAll}
 use Rattle.entries.specs.Entries.{rowsOf, marked, entries, lastRows}
 use Rattle.reader.specs.Many.{spent, endedBy, Many, readMany}

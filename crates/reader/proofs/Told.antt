@@ -7,7 +7,7 @@ use mathlib.Core.Bool.{false, _||_}
 use borrow.Author.Tests.{eqb-false, leb-false}
 use lib.Dec.{leb}
 use lib.ListN.{length, length-map}
-use Rattle.model.specs.Answer.{Answer, refused, answer}
+use Rattle.model.specs.Answer.{Answer, refused, answer, rowOf}
 use Rattle.model.specs.Bits.{setPlaces}
 use Rattle.model.specs.Change.{Change, Told, nothingLeft, taken, bundled, Decision, single, oneVote, decided, together, whole}
 use Rattle.model.specs.Decide.{decideVote, decideEach, bundleIds, noBitSet, decideRecord, decide}
@@ -19,7 +19,6 @@ use Rattle.model.proofs.Log.{decode-elim}
 use Rattle.model.proofs.Rows.{memberRows, checkpointRows, voteRows, bundleRows, quorumRows, member-elim}
 use Rattle.model.proofs.Rows.{checkpoint-elim}
 use Rattle.model.proofs.Rows.{vote-elim, bundle-elim, quorum-elim}
-use Rattle.state.specs.Reading.{rowOf}
 use Rattle.bits.proofs.SetPlaces.{few-set}
 use Rattle.entries.specs.Entries.{rowsOf}
 

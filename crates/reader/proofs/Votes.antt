@@ -5,12 +5,12 @@ use mathlib.Core.Path.{_≡_, refl, sym, ap, ap₂, _∙_}
 use mathlib.Core.List.{List, [], _∷_, _++_, map, flatMap, append-assoc, append-nil}
 use lib.ListN.{length, take, drop, length-append, length-map}
 use lib.Seq.{take-at, drop-append-add}
-use Rattle.model.specs.Answer.{Answer, refused, answer}
+use Rattle.model.specs.Answer.{Answer, refused, answer, rowOf}
 use Rattle.model.specs.Bytes.{part}
 use Rattle.model.specs.Change.{Told, nothingLeft, taken, bundled}
 use Rattle.model.specs.Lists.{All, none, each}
 use Rattle.model.proofs.Lists.{all-append}
-use Rattle.state.specs.Reading.{Brief, noneLeft, oneTaken, manyVotes, rowOf, outcomeOf, brief, rowsOfVotes, padded}
+use Rattle.state.specs.Reading.{Brief, noneLeft, oneTaken, manyVotes, outcomeOf, brief, rowsOfVotes, padded}
 use Rattle.state.specs.State.{modelOf}
 use Rattle.state.specs.declared.Outcome.{Outcome}
 use Rattle.state.specs.declared.Outcome.the-variants.{Nothing, Taken, Bundled, Refused}

@@ -4,7 +4,7 @@ use Prim.Native.Nat.{ℕ, _-_}
 use mathlib.Core.Path.{_≡_}
 use mathlib.Core.List.{List, [], _++_, map}
 use lib.ListN.{length, replicate}
-use Rattle.model.specs.Answer.{Answer, refused, answer}
+use Rattle.model.specs.Answer.{Answer, refused, answer, rowOf}
 use Rattle.model.specs.Change.{Told, nothingLeft, taken, bundled, Decision}
 use Rattle.model.specs.Limits.{memberLimit}
 use Rattle.model.specs.Refusals.{refusalNumber}
@@ -34,11 +34,6 @@ brief (refused n) = refused n
 brief (answer nothingLeft) = answer noneLeft
 brief (answer taken) = answer oneTaken
 brief (answer (bundled os)) = answer (manyVotes (length os))
-
--- the row that refused a record or a single vote, or 0, which is no row's number
-unfoldable pub rowOf : {A : Type 0} → Answer A → ℕ
-rowOf (refused n) = n
-rowOf (answer a) = 0
 
 -- the row of each vote of a bundle, or 0; none of what is no bundle, or is refused whole
 unfoldable pub rowsOfVotes : Answer Told → List ℕ

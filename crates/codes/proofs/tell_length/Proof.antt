@@ -1,5 +1,6 @@
 -- `codes::tell_length` meets its contract: the length, or the refusal, told in numbers. Assumes nothing.
 use mathlib.Core.Path.{sym, ap}
+use Rattle.model.specs.Answer.{rowOf}
 use Rattle.model.specs.Buffer.{writeAnswerOf}
 use Rattle.codes.proofs.Told.{tell-refused}
 use borrow.Author.Needs.{needs}
@@ -16,6 +17,7 @@ number-requires : tie.Need-number-requires
 number-requires c κs = search needs
 
 returns : tie.Need-returns
+unfolding rowOf
 returns c = search needs
 
 returns-2 : tie.Need-returns-2

@@ -1,7 +1,8 @@
 -- `entries::row_of` meets its contract, case by case. Assumes nothing.
 use mathlib.Core.Path.{sym, ap, _∙_}
 use borrow.Author.Needs.{needs}
-use Rattle.state.specs.Reading.{outcomeOf, rowOf}
+use Rattle.model.specs.Answer.{rowOf}
+use Rattle.state.specs.Reading.{outcomeOf}
 use Rattle.state.specs.declared.Outcome.{Outcome}
 use Rattle.entries.proofs.row_of.Statement.{statement}
 use Rattle.entries.proofs.row_of.Tie as tie

@@ -2,10 +2,10 @@
 use native.Mathlib.Omega.{arith}
 use mathlib.Core.Path.{sym, ap, _∙_}
 use borrow.Author.Needs.{needs}
+use Rattle.model.specs.Answer.{rowOf}
 use Rattle.model.proofs.Refusals.{refusal-small}
 use Rattle.ballots.specs.Ballot.{changeOf}
 use Rattle.ballots.specs.declared.votes.Ballot.{Ballot}
-use Rattle.state.specs.Reading.{rowOf}
 use Rattle.entries.proofs.row_of_vote.Statement.{statement}
 use Rattle.entries.proofs.row_of_vote.Tie as tie
 

@@ -2,8 +2,8 @@
 use mathlib.Core.Path.{sym, ap, _∙_}
 use mathlib.Core.Bool.{Bool, cond}
 use borrow.Author.Needs.{needs}
+use Rattle.model.specs.Answer.{rowOf}
 use Rattle.ballots.specs.Ballot.{changeOf}
-use Rattle.state.specs.Reading.{rowOf}
 use Rattle.entries.specs.Entries.{later}
 use Rattle.entries.proofs.vote_entry.Statement.{statement}
 use Rattle.entries.proofs.vote_entry.Tie as tie

@@ -1,6 +1,7 @@
 -- `ffi::ffw_read` meets its contract: the outcome of the reading, told in numbers. Assumes nothing.
 use mathlib.Core.Path.{ap, _∙_}
-use Rattle.codes.specs.Numbers.{refusalOf, valueOf, takenNumber, votesNumber}
+use Rattle.model.specs.Answer.{rowOf}
+use Rattle.codes.specs.Numbers.{valueOf, takenNumber, votesNumber}
 use borrow.Author.Needs.{needs}
 use Rattle.ffi.proofs.ffw_read.Statement.{statement}
 use Rattle.ffi.proofs.ffw_read.Tie as tie
@@ -16,7 +17,7 @@ returns c =
     let is = c .before .before .before .read .ensures in
     let told = c .tell .ensures in
     record {
-      refused = told .refused ∙ ap refusalOf (is .outcome);
+      refused = told .refused ∙ ap rowOf (is .outcome);
       taken = told .taken ∙ ap (valueOf takenNumber) (is .outcome);
       votes = told .votes ∙ ap (valueOf votesNumber) (is .outcome);
       rows = is .rows;

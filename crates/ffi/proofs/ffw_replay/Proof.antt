@@ -1,7 +1,8 @@
 -- `ffi::ffw_replay` meets its contract: the log's reading, told in numbers. Assumes nothing.
 use mathlib.Core.Path.{ap, _∙_}
+use Rattle.model.specs.Answer.{rowOf}
 use Rattle.model.specs.Bytes.{part}
-use Rattle.codes.specs.Numbers.{refusalOf, valueOf, takenNumber, votesNumber}
+use Rattle.codes.specs.Numbers.{valueOf, takenNumber, votesNumber}
 use borrow.Author.Needs.{needs}
 use Rattle.ffi.proofs.ffw_replay.Statement.{statement}
 use Rattle.ffi.proofs.ffw_replay.Tie as tie
@@ -21,8 +22,8 @@ returns c =
     let is = b .replay .ensures in
     let told = c .before .tell .ensures in
     record {
-      header = c .start-number .ensures (part 5 32 (b .before .before .args .log .now)) ∙ ap refusalOf (is .start);
-      refused = told .refused ∙ ap (λ x. refusalOf (x .last)) (is .read);
+      header = c .start-number .ensures (part 5 32 (b .before .before .args .log .now)) ∙ ap rowOf (is .start);
+      refused = told .refused ∙ ap (λ x. rowOf (x .last)) (is .read);
       taken = told .taken ∙ ap (λ x. valueOf takenNumber (x .last)) (is .read);
       votes = told .votes ∙ ap (λ x. valueOf votesNumber (x .last)) (is .read);
       rows = ap (λ x. x .rows) (is .read);

@@ -11,7 +11,7 @@ use borrow.Author.Needs.{needs}
 use borrow.Author.Tests.{ltb-true, leb-true, leb-false, lt-ltb, le-leb}
 use lib.Dec.{eqb, ltb, leb}
 use lib.ListN.{length, drop, set, getD, length-take, length-drop, length-set}
-use Rattle.model.specs.Answer.{Answer, refused, answer}
+use Rattle.model.specs.Answer.{Answer, refused, answer, rowOf}
 use Rattle.model.specs.Bits.{bitSet, setPlaces}
 use Rattle.model.specs.Bytes.{AreBytes, part}
 use Rattle.model.specs.Change.{Change, addVote, Decision as Decided, single, oneVote, together}
@@ -28,7 +28,7 @@ use Rattle.registry.specs.Decision.{castEach, decisionOf}
 use Rattle.registry.specs.declared.Decision.{Decision}
 use Rattle.rules.specs.Decision.{Bits, BitsFit}
 use Rattle.rules.proofs.Bundled.{cast-fits}
-use Rattle.state.specs.Reading.{outcomeOf, rowOf, brief}
+use Rattle.state.specs.Reading.{outcomeOf, brief}
 use Rattle.state.specs.Sound.{Sound}
 use Rattle.state.specs.State.{modelOf, withMember, withCheckpoint, withVote, withQuota, store, storeAll, stored}
 use Rattle.state.specs.declared.Witness.{Witness}
