@@ -1,7 +1,9 @@
-// differential SEED LOGS LISTS: the static library beside the reference, on generated logs, lists of charges and states.
+// differential SEED LOGS LISTS: the static libraries beside the reference, on generated logs, lists of charges, states
+// and requests to a guard.
 // Prints what was compared; on a difference the case and both answers, and fails. A case can be made again from its seed
 // and number.
 mod compare;
+mod guard;
 mod library;
 mod lists;
 #[allow(dead_code)]
@@ -73,6 +75,15 @@ fn compare_states(seed: u64, count: usize, tally: &mut Tally) {
     }
 }
 
+fn compare_guards(seed: u64, count: usize, tally: &mut Tally) {
+    for number in 0..count {
+        let compared = guard::requests(seed, number, tally).and_then(|()| guard::members(seed, number, tally));
+        if let Err(difference) = compared {
+            fail(seed, "guard", number, &difference);
+        }
+    }
+}
+
 fn main() {
     let (seed, logs, lists) = (argument(1, 1), argument(2, 5000) as usize, argument(3, 5000) as usize);
     session::check();
@@ -80,11 +91,13 @@ fn main() {
     compare_logs(seed, logs, &mut tally);
     compare_lists(seed, lists, &mut tally);
     compare_states(seed, lists / 4, &mut tally);
+    compare_guards(seed, lists / 10, &mut tally);
     tally.print();
     let missing = tally.missing();
     if !missing.is_empty() {
         println!("seed {seed}: never occurred: {}", missing.join(", "));
         exit(1);
     }
-    println!("seed {seed}: {logs} logs, {lists} lists and {} states agree", lists / 4);
+    let (states, guards) = (lists / 4, lists / 10);
+    println!("seed {seed}: {logs} logs, {lists} lists, {states} states and {guards} guards agree");
 }

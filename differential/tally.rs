@@ -8,9 +8,9 @@ pub struct Tally(BTreeMap<String, u64>);
 
 // Every row of the table and of the requests done, the rows that a bundle's votes may meet, every answer, what becomes
 // of bundles, what a quorum that was given makes of a witness, and what papers have to show.
-const ROWS: [Refusal; 34] = [
+const ROWS: [Refusal; 37] = [
     1, 2, 3, 4, 5, 10, 11, 12, 13, 20, 21, 22, 30, 31, 32, 33, 34, 35, 36, 40, 41, 50, 51, 52, 53, 54, 55, 56, 57, 60,
-    61, 62, 63, 64,
+    61, 62, 63, 64, 65, 66, 67,
 ];
 const BUNDLED_ROWS: [Refusal; 6] = [31, 32, 33, 34, 35, 36];
 const ANSWERS: [&str; 9] = [
@@ -52,6 +52,25 @@ const PAPERS: [&str; 6] = [
     "paper row that passes over more bond from a plain source",
 ];
 
+// What a guard is put, and a member whom it keeps clear.
+pub const GUARDED: [&str; 15] = [
+    "vote signed by an unused record",
+    "vote refused by an unused record",
+    "vote signed from the last source",
+    "vote signed one above the last target",
+    "vote signed from one below its target",
+    "vote signed to the greatest height",
+    "vote refused at equal heights",
+    "vote refused by 65 where 66 applies too",
+    "vote refused at the last target",
+    "vote refused below the last target",
+    "vote refused by 66 where 67 applies too",
+    "vote refused one below the last source",
+    "request to a record used by another number",
+    "request to an unused record with heights",
+    "charged member with two votes that a guard keeps clear",
+];
+
 const ALREADY_GIVEN: &str = "a quorum already given";
 
 fn why(k: Quota) -> Option<&'static str> {
@@ -78,6 +97,10 @@ fn bundled_name(row: Refusal) -> String {
 impl Tally {
     fn add(&mut self, what: &str) {
         *self.0.entry(what.to_string()).or_default() += 1;
+    }
+
+    pub fn occurred(&mut self, what: &str) {
+        self.add(what);
     }
 
     pub fn refused(&mut self, row: Refusal) {
@@ -223,7 +246,7 @@ impl Tally {
     pub fn missing(&self) -> Vec<String> {
         let rows = ROWS.iter().map(|row| refused_name(*row));
         let bundled = BUNDLED_ROWS.iter().map(|row| bundled_name(*row));
-        let others = ANSWERS.iter().chain(&BUNDLES).chain(&GIVEN).chain(&PAPERS).map(|a| a.to_string());
+        let others = ANSWERS.iter().chain(&BUNDLES).chain(&GIVEN).chain(&PAPERS).chain(&GUARDED).map(|a| a.to_string());
         let refused = WHY.iter().chain([&ALREADY_GIVEN]).map(|reason| why_refused(reason));
         let unsound = WHY.iter().map(|reason| why_unsound(reason));
         let all = rows.chain(bundled).chain(refused).chain(unsound).chain(others);

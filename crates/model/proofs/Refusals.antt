@@ -13,7 +13,8 @@ use Rattle.model.specs.declared.Refusal.the-variants.{BondOutOfRange, Id
 use Rattle.model.specs.declared.Refusal.the-variants.{VoterNotHeld, SourceNotHeld, TargetNotHeld, WrongHeight, NotAncestor, VoteHeld}
 use Rattle.model.specs.declared.Refusal.the-variants.{VotesFull, UnsoundState, PlaceNotHeld, ListLength, ListMark, ListVersion}
 use Rattle.model.specs.declared.Refusal.the-variants.{IdNotRising, ChargedNotHeld, NotOwnVote, NotEarlier, NoViolation, BufferTooShort}
-use Rattle.model.specs.declared.Refusal.the-variants.{BitWithoutMember, NoBitSet, QuorumFixed, BadQuorum}
+use Rattle.model.specs.declared.Refusal.the-variants.{BitWithoutMember, NoBitSet, QuorumFixed, BadQuorum, SourceNotBelowTarget, TargetNotAboveLast}
+use Rattle.model.specs.declared.Refusal.the-variants.{SourceBelowLast}
 
 -- the table's cases in its order
 unfoldable pub refusals : List Refusal
@@ -23,7 +24,8 @@ refusals =
     ∷ VoterNotHeld ∷ SourceNotHeld ∷ TargetNotHeld ∷ WrongHeight ∷ NotAncestor ∷ VoteHeld
     ∷ VotesFull ∷ UnsoundState ∷ PlaceNotHeld ∷ ListLength ∷ ListMark ∷ ListVersion
     ∷ IdNotRising ∷ ChargedNotHeld ∷ NotOwnVote ∷ NotEarlier ∷ NoViolation ∷ BufferTooShort
-    ∷ BitWithoutMember ∷ NoBitSet ∷ QuorumFixed ∷ BadQuorum ∷ []
+    ∷ BitWithoutMember ∷ NoBitSet ∷ QuorumFixed ∷ BadQuorum ∷ SourceNotBelowTarget ∷ TargetNotAboveLast
+    ∷ SourceBelowLast ∷ []
 
 -- the refusal with a number; the first of the table where no refusal has it
 unfoldable pub refusalOf : ℕ → Refusal
@@ -65,6 +67,9 @@ refusal-back BitWithoutMember = refl
 refusal-back NoBitSet = refl
 refusal-back QuorumFixed = refl
 refusal-back BadQuorum = refl
+refusal-back SourceNotBelowTarget = refl
+refusal-back TargetNotAboveLast = refl
+refusal-back SourceBelowLast = refl
 
 pub refusal-number-injective : (a b : Refusal) → refusalNumber a ≡ refusalNumber b → a ≡ b
 refusal-number-injective a b e = sym (refusal-back a) ∙ ap refusalOf e ∙ refusal-back b
@@ -105,3 +110,6 @@ refusal-small BitWithoutMember = (omega arith, omega arith)
 refusal-small NoBitSet = (omega arith, omega arith)
 refusal-small QuorumFixed = (omega arith, omega arith)
 refusal-small BadQuorum = (omega arith, omega arith)
+refusal-small SourceNotBelowTarget = (omega arith, omega arith)
+refusal-small TargetNotAboveLast = (omega arith, omega arith)
+refusal-small SourceBelowLast = (omega arith, omega arith)

@@ -75,6 +75,9 @@ pub enum Refusal {
     NoBitSet,
     QuorumFixed,
     BadQuorum,
+    SourceNotBelowTarget,
+    TargetNotAboveLast,
+    SourceBelowLast,
 }
 
 // What writing a text into a lent buffer comes to: the text's length, or why nothing was written.

@@ -41,5 +41,8 @@ pub fn refusal_number(r: Refusal) -> u8
         Refusal::NoBitSet => 62,
         Refusal::QuorumFixed => 63,
         Refusal::BadQuorum => 64,
+        Refusal::SourceNotBelowTarget => 65,
+        Refusal::TargetNotAboveLast => 66,
+        Refusal::SourceBelowLast => 67,
     }
 }
