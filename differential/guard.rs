@@ -83,20 +83,20 @@ impl Asker {
         }
     }
 
-    // A record to start with: a fresh one, or any three numbers.
+    // A record to start with: a fresh one, or small heights in any order and any `used`.
     fn record(&mut self) -> Guard {
         if !self.random.one_in(3) {
             return Guard::fresh();
         }
         let mut height = || Height(self.random.below(12) as u32);
         let (source, target) = (height(), height());
-        Guard { source, target, used: self.random.pick(&[0, 1, 2, 256, u32::MAX]) }
+        Guard { source, target, used: self.random.pick(&[0, 1, 2, 1 << 8, 1 << 16, 1 << 31]) }
     }
 }
 
 fn count(tally: &mut Tally, guard: &Guard, (source, target): Vote, told: u64) {
     let (used, last_source, last_target) = (guard.used != 0, guard.source.0, guard.target.0);
-    let what = [
+    let what: [bool; 14] = [
         told == 0 && !used,
         told == 65 && !used,
         told == 0 && used && source == last_source,
@@ -123,6 +123,7 @@ pub fn requests(seed: u64, number: usize, tally: &mut Tally) -> Same {
     let mut random = Random::of_case(seed, 7, number as u64);
     let (length, wild, top) = (random.within(1, 2000), random.one_in(3), random.one_in(8));
     let mut asker = Asker { random, wild, top };
+    same("a fresh record", Guard::fresh(), Guard { source: Height(0), target: Height(0), used: 0 })?;
     let mut guard = asker.record();
     let mut signed: Vec<Vote> = Vec::new();
     for k in 0..length {
@@ -143,7 +144,7 @@ pub fn requests(seed: u64, number: usize, tally: &mut Tally) -> Same {
 }
 
 // The records of a log, with the member's votes left out that its guard refuses: those in bundles too, by their bits.
-fn guarded(log: &[u8], id: u16, place: usize) -> Vec<u8> {
+fn guarded(log: &[u8], id: u16, place: usize, tally: &mut Tally) -> Vec<u8> {
     let mut guard = Guard::fresh();
     let mut out = log[..HEADER].to_vec();
     let mut at = HEADER;
@@ -155,7 +156,10 @@ fn guarded(log: &[u8], id: u16, place: usize) -> Vec<u8> {
         let (byte, bit) = (1 + place / 8, 1 << (place % 8));
         match (record[0], length) {
             (3, 75) if record[1..3] == id.to_be_bytes() && guard.sign((height(67), height(71))) != 0 => continue,
-            (5, 89) if record[byte] & bit != 0 && guard.sign((height(81), height(85))) != 0 => record[byte] ^= bit,
+            (5, 89) if record[byte] & bit != 0 && guard.sign((height(81), height(85))) != 0 => {
+                record[byte] ^= bit;
+                tally.occurred(GUARDED[15]);
+            }
             _ => {}
         }
         out.extend(record);
@@ -178,7 +182,7 @@ pub fn members(seed: u64, number: usize, tally: &mut Tally) -> Same {
     let members = reference::read_log(&log).witness.members;
     for id in charged(&log).0 {
         let place = members.iter().position(|held| *held == id).expect("a member is charged");
-        let (ids, voters) = charged(&guarded(&log, id, place));
+        let (ids, voters) = charged(&guarded(&log, id, place, tally));
         same(&format!("member {id}, guarded, is charged"), ids.contains(&id), false)?;
         if voters.iter().filter(|voter| **voter == id).count() > 1 {
             tally.occurred(GUARDED[14]);

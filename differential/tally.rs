@@ -53,7 +53,7 @@ const PAPERS: [&str; 6] = [
 ];
 
 // What a guard is put, and a member whom it keeps clear.
-pub const GUARDED: [&str; 15] = [
+pub const GUARDED: [&str; 16] = [
     "vote signed by an unused record",
     "vote refused by an unused record",
     "vote signed from the last source",
@@ -69,6 +69,7 @@ pub const GUARDED: [&str; 15] = [
     "request to a record used by another number",
     "request to an unused record with heights",
     "charged member with two votes that a guard keeps clear",
+    "vote in a bundle that a guard refuses",
 ];
 
 const ALREADY_GIVEN: &str = "a quorum already given";

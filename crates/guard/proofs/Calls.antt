@@ -9,7 +9,7 @@ use Rattle.model.specs.declared.Refusal.the-variants.{SourceNotBelowTarget, Tar
 use Rattle.model.proofs.Answer.{row-elim}
 use Rattle.model.proofs.Refusals.{refusal-small}
 use Rattle.guard.specs.Signing.{guardRows, signAnswerOf}
-use Rattle.guard.specs.Calls.{Calls, none, call, answersFrom, lastRecord, Folded, CallsAreFold, ExportedIsCall}
+use Rattle.guard.specs.Calls.{none, call, answersFrom, lastRecord, Folded, CallsAreFold, ExportedIsCall}
 use Rattle.guard.specs.declared.Guard.{Guard}
 use Rattle.guard.specs.declared.SignAnswer.{SignAnswer}
 use Rattle.guard.specs.declared.SignAnswer.the-variants.{Signed, Refused}

@@ -88,6 +88,9 @@ pub record GuardCases : Type 0 where
   surrounded : heightsBreak 0 4 1 3 ≡ true
   surrounding : heightsBreak 1 3 0 4 ≡ true
   same-source : heightsBreak 1 3 1 4 ≡ false
+  -- after 5 → 6 a copy of the record from before signs 4 → 7, which surrounds it
+  old-copy-signs : put last 4 7 ≡ signs 4 7
+  old-copy-breaks : heightsBreak 5 6 4 7 ≡ true
 
 pub guard-cases : GuardCases
 unfolding guardRows row rewrittenBy answersFrom lastRecord
@@ -124,11 +127,12 @@ guard-cases =
       surrounded = refl;
       surrounding = refl;
       same-source = refl;
+      old-copy-signs = refl;
+      old-copy-breaks = refl;
     }
 
--- ---- a model that GuardedMember speaks of: two votes of member 1, which came in another order than they were signed
--- in;
--- a vote that was signed is not held
+-- ---- a model that GuardedMember speaks of: two votes of member 1, which did not come in the order in which they were
+-- signed; a third that was signed is not held
 
 abbrev requests : List Request
 requests = ask 0 1 ∷ ask 0 1 ∷ ask 1 2 ∷ ask 2 3 ∷ []

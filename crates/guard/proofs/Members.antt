@@ -13,7 +13,6 @@ use Rattle.model.proofs.Lists.{all-map}
 use Rattle.model.proofs.Slashing.{same-keeps}
 use Rattle.guard.specs.Calls.{Request, signedIn}
 use Rattle.guard.specs.Safe.{Safe}
-use Rattle.guard.proofs.Rows.{passes}
 use Rattle.guard.specs.Members.{OwnVote, SignedVotes, NeverCharged, GuardedMember}
 use Rattle.guard.proofs.Safe.{guard-safe}
 

@@ -22,7 +22,6 @@ use Rattle.guard.specs.Safe.{FreshMeets65Only, HasHeights, GuardSafe, Re
 use Rattle.guard.specs.declared.Guard.{Guard}
 use Rattle.guard.specs.declared.SignAnswer.{SignAnswer}
 use Rattle.guard.specs.declared.SignAnswer.the-variants.{Signed, Refused}
-use Rattle.guard.proofs.Rows.{passes}
 
 pub fresh-meets-65-only : FreshMeets65Only
 unfolding guardRows row
