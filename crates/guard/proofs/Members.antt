@@ -1,4 +1,4 @@
--- A member all of whose votes are among votes that are safe is never charged, and the votes that a guard signs are safe.
+-- A member all of whose votes are among votes that are safe is never charged; the votes that a guard signs are safe.
 use Prim.Native.Nat.{ℕ}
 use native.Mathlib.Omega.{arith}
 use mathlib.Core.Path.{_≡_, sym, _∙_, subst}
