@@ -1,6 +1,8 @@
 // bench: the library's time beside plain Rust's, in one run: both at -O, in turn, the least of several rounds. Times are in
 // microseconds. A call of the library that takes a state checks it first (row 40); where a line says so that check's
 // own time is taken off.
+#[allow(dead_code)]
+mod growing;
 mod hashed;
 #[allow(dead_code)]
 mod library;
@@ -97,6 +99,24 @@ fn bundles(nothing: &library::Witness) {
     line("32 bundles of 128 beside 4,096 votes", ours, "the library", times["single votes"] - times["before"]);
 }
 
+// A move of the root up a chain with 32 final checkpoints: half of 4,096 votes are dropped.
+fn moves(nothing: &library::Witness) {
+    let log = logs::finals_log(1, 32);
+    let held = nothing.replay(&log).witness;
+    let hashed = reference::read_log(&log).witness;
+    let moved = held.move_root(16);
+    assert!(held.checkpoint_count == 512 && held.vote_count == 4096 && moved.refused == 0);
+    assert!(moved.witness.checkpoint_count == 496 && moved.witness.vote_count == 2048 && hashed.move_root(16).is_ok());
+
+    let times = least(vec![
+        ("ours: move", Box::new(|| done(black_box(&held).move_root(16)))),
+        ("ours: row 40", Box::new(|| done(black_box(&held).is_sound()))),
+        ("hashed: move", Box::new(|| done(black_box(&hashed).move_root(16).is_ok()))),
+    ]);
+    let ours = times["ours: move"] - times["ours: row 40"];
+    line("moving the root, less row 40", ours, "the reference", times["hashed: move"]);
+}
+
 fn main() {
     session::check();
     let full = logs::full_log(1, 4096);
@@ -158,5 +178,6 @@ fn main() {
     line("our list, less row 40", t("ours: list") - t("ours: row 40"), "the reference", t("hashed: list"));
     line("the board paper, less row 40", t("ours: paper") - t("ours: row 40"), "the reference", t("hashed: paper"));
     bundles(&nothing);
+    moves(&nothing);
     println!("a record by a call of its own: {:.2} of which row 40 {:.2}", t("ours: one record"), t("ours: row 40, one vote less"));
 }

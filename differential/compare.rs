@@ -1,6 +1,7 @@
 // The library beside the reference: everything that is asked of a log, of a list of charges and of a state. A difference
 // is told with both answers.
 use crate::library::{self, Answer, Told, REFUSED};
+use crate::moves;
 use crate::paper;
 use crate::random::Random;
 use crate::reference::{self, Outcome, Quota, Reading, Refusal, Status, HEADER, MAX_MEMBERS};
@@ -37,7 +38,7 @@ fn same_bytes(what: &str, library: &[u8], reference: &[u8]) -> Same {
 
 // Logs with more records, and states with more votes, than these are asked about in samples.
 const MANY_RECORDS: usize = 60;
-const MANY_VOTES: usize = 1000;
+pub const MANY_VOTES: usize = 1000;
 
 // All about one log. The state that the header meets is `before`; what the log leaves is given back.
 pub fn log(log: &[u8], before: &library::Witness, random: &mut Random, tally: &mut Tally) -> Result<Box<library::Replay>, String> {
@@ -65,24 +66,19 @@ pub fn log(log: &[u8], before: &library::Witness, random: &mut Random, tally: &m
 }
 
 // What is held: the quorum that was given, and members, checkpoints and votes, each in the order of acceptance.
-fn held(w: &library::Witness, r: &reference::Witness) -> Same {
+pub fn held(w: &library::Witness, r: &reference::Witness) -> Same {
     same("the quorum given", (w.numbers.p, w.numbers.q), r.given.map_or((0, 0), |k| (k.p as u16, k.q as u16)))?;
     let members: Vec<(u16, u64)> = (0..w.member_count).map(|i| (w.ids[i], w.bonds[i])).collect();
     same("members", members, r.members.iter().map(|id| (*id, r.bonds[id])).collect())?;
     same("checkpoints held", w.checkpoint_count, r.checkpoints.len())?;
-    let mut names = vec![[0; 32]; r.checkpoints.len()];
-    for (name, place) in &r.places {
-        names[*place] = *name;
-    }
-    same("names", &w.names[..32 * w.checkpoint_count], &names.concat()[..])?;
+    same("names", &w.names[..32 * w.checkpoint_count], &r.names().concat()[..])?;
     for (place, c) in r.checkpoints.iter().enumerate() {
         same("height", w.heights[place], c.height)?;
         if let Some(parent) = c.parent {
             same("parent", usize::from(w.parents[place]), parent)?;
         }
     }
-    let cast = |i: usize| reference::Vote { member: w.voters[i], source: w.sources[i].into(), target: w.targets[i].into() };
-    same("votes", (0..w.vote_count).map(cast).collect::<Vec<_>>(), r.votes.clone())
+    same("votes", states::votes(w), r.votes.clone())
 }
 
 // The offset of each record, up to the one that stops the reading.
@@ -100,7 +96,7 @@ fn offsets(log: &[u8]) -> Vec<usize> {
 }
 
 // An outcome as the library tells it. The rows are those of a bundle's votes, and 0 past them.
-fn told(outcome: &Outcome) -> Told {
+pub fn told(outcome: &Outcome) -> Told {
     let mut told = Told { refused: 0, taken: 0, votes: 0, rows: [0; MAX_MEMBERS] };
     match outcome {
         Outcome::Nothing => {}
@@ -160,7 +156,7 @@ fn status_number(s: Status) -> u64 {
 }
 
 // Standings, backings, the conflict answer, our list and its check, the board paper.
-fn answers(w: &library::Witness, r: &reference::Witness, random: &mut Random, tally: &mut Tally) -> Same {
+pub fn answers(w: &library::Witness, r: &reference::Witness, random: &mut Random, tally: &mut Tally) -> Same {
     let count = r.checkpoints.len();
     let samples = if r.votes.len() > MANY_VOTES { 3 } else { 12 };
     let places: Vec<usize> = if count <= samples { (0..count).collect() } else { (0..samples).map(|_| random.below(count)).collect() };
@@ -262,15 +258,16 @@ pub fn state(w: &library::Witness, log: &[u8], list: &[u8], random: &mut Random,
     if let Some(quota) = states::rule_alone(w) {
         tally.rule(quota);
     }
+    tally.root(w, sound);
     same("row 40", w.is_sound(), sound)?;
     if sound { sound_state(w, random, tally) } else { unsound_state(w, log, list, tally) }
 }
 
-// Where row 40 does not apply, the answers are those on a log that has all that the state holds.
+// Where row 40 does not apply, the answers are those of a witness that has all that the state holds, and so are moves.
 fn sound_state(w: &library::Witness, random: &mut Random, tally: &mut Tally) -> Same {
-    let r = reference::read_log(&states::log_of(w)).witness;
-    held(w, &r)?;
-    answers(w, &r, random, tally)
+    let r = states::held_by(w);
+    answers(w, &r, random, tally)?;
+    moves::to_places(w, &r, random, tally)
 }
 
 // Row 40 as the answer to reading a record: none was looked at, so no row is told of one.
@@ -289,6 +286,7 @@ fn unsound_state(w: &library::Witness, log: &[u8], list: &[u8], tally: &mut Tall
     let closed = w.close(7, 0, &mut buffer);
     let told = (closed.pause, closed.records, closed.written, closed.witness == *w);
     same("closing", told, (REFUSED + 40, 7, 0, true))?;
+    moves::unsound(w)?;
     same("standing", w.status(65535), Err(40))?;
     same("backing", w.support(0, 65535), Err(40))?;
     same("conflict", w.conflict(), Err(40))?;

@@ -112,7 +112,7 @@ fn count(tally: &mut Tally, guard: &Guard, (source, target): Vote, told: u64) {
         guard.used > 1,
         !used && last_target > 0,
     ];
-    what.iter().zip(GUARDED).filter(|(occurred, _)| **occurred).for_each(|(_, name)| tally.occurred(name));
+    tally.which(&what, &GUARDED);
     if told != 0 {
         tally.refused(told as u8);
     }
@@ -170,9 +170,7 @@ fn guarded(log: &[u8], id: u16, place: usize, tally: &mut Tally) -> Vec<u8> {
 // The ids in our list, by the library; and the voters of the votes held.
 fn charged(log: &[u8]) -> (Vec<u16>, Vec<u16>) {
     let witness = library::Witness::nothing().replay(log).witness;
-    let mut list = vec![0; 7 + 6 * reference::MAX_MEMBERS];
-    let length = witness.write_list(&mut list).expect("a list fits its buffer") as usize;
-    let ids = list[7..length].chunks(6).map(|entry| u16::from_be_bytes([entry[0], entry[1]])).collect();
+    let ids = witness.charges().iter().map(|(id, _, _)| *id).collect();
     (ids, witness.voters[..witness.vote_count].to_vec())
 }
 

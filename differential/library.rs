@@ -89,10 +89,17 @@ pub struct Read {
     pub witness: Witness,
 }
 
+#[repr(C)]
+pub struct Moved {
+    pub refused: u64,
+    pub witness: Witness,
+}
+
 extern "C" {
     fn ffw_begin(w: Witness, log: *const u8, length: usize) -> Begun;
     fn ffw_replay(w: Witness, log: *const u8, length: usize, limit: u64) -> Replay;
     fn ffw_read(w: Witness, log: *const u8, length: usize, at: usize) -> Read;
+    fn ffw_move_root(w: Witness, place: Place) -> Moved;
     fn ffw_sound(w: Witness) -> bool;
     fn ffw_status(w: Witness, place: Place) -> Answered;
     fn ffw_support(w: Witness, source: Place, target: Place) -> Backed;
@@ -169,6 +176,10 @@ impl Witness {
         Box::new(unsafe { ffw_read(*self, log.as_ptr(), log.len(), at) })
     }
 
+    pub fn move_root(&self, place: u16) -> Box<Moved> {
+        Box::new(unsafe { ffw_move_root(*self, Place(place)) })
+    }
+
     pub fn is_sound(&self) -> bool {
         unsafe { ffw_sound(*self) }
     }
@@ -189,6 +200,14 @@ impl Witness {
 
     pub fn write_list(&self, buffer: &mut [u8]) -> Answer<u64> {
         answer(unsafe { ffw_list(*self, buffer.as_mut_ptr(), buffer.len()) })
+    }
+
+    // The entries of our list: the id, and the numbers of the two votes.
+    pub fn charges(&self) -> Vec<(u16, u16, u16)> {
+        let mut list = vec![0; 7 + 6 * MAX_MEMBERS];
+        let length = self.write_list(&mut list).expect("a list fits its buffer") as usize;
+        let field = |entry: &[u8], at: usize| u16::from_be_bytes([entry[at], entry[at + 1]]);
+        list[7..length].chunks(6).map(|entry| (field(entry, 0), field(entry, 2), field(entry, 4))).collect()
     }
 
     pub fn write_paper(&self, buffer: &mut [u8]) -> Answer<u64> {

@@ -1,7 +1,8 @@
 // Generated logs: right and wrong, short and long. What the maker believes about a log serves only to make it likely
 // that something happens; what the log says is for the two readers to find out.
 use crate::random::Random;
-use crate::reference::{Name, HEADER, MAX_BOND, MAX_CHECKPOINTS, MAX_MEMBERS, MAX_VOTES};
+use crate::reference::{Checkpoint, Name, Witness, HEADER, MAX_BOND, MAX_CHECKPOINTS, MAX_MEMBERS, MAX_VOTES};
+use std::collections::HashMap;
 
 // How names differ: anywhere, or in two bytes alone: the last, the first, the middle ones, the first with the last.
 #[derive(Clone, Copy)]
@@ -14,7 +15,7 @@ pub enum Naming {
 }
 
 // A checkpoint as a vote or a bundle tells it: its name and its height.
-type Spot = (Name, u32);
+pub type Spot = (Name, u32);
 
 struct Node {
     name: Name,
@@ -23,11 +24,13 @@ struct Node {
 }
 
 // A log in the making, with the members, the tree and the votes that it has so far.
-struct Maker {
-    random: Random,
-    log: Vec<u8>,
-    ids: Vec<u16>,
+pub struct Maker {
+    pub random: Random,
+    pub log: Vec<u8>,
+    pub ids: Vec<u16>,
     tree: Vec<Node>,
+    // how many checkpoints there were in earlier trees
+    gone: usize,
     votes: Vec<(u16, usize, usize)>,
     naming: Naming,
     last_record: usize,
@@ -96,7 +99,7 @@ pub fn log_with_charges(seed: u64, number: usize) -> Vec<u8> {
 // A log that fills the witness: 128 members, 512 checkpoints, and `votes` distinct votes. Half of them carry a chain of
 // 16 links with everyone's votes; the others are spread over all checkpoints.
 pub fn full_log(seed: u64, votes: usize) -> Vec<u8> {
-    let mut m = Maker::full_tree(seed);
+    let mut m = Maker::full_tree(seed, 3);
     let everyone = m.member_places();
     for step in 0..16 {
         m.carry(&everyone, step * 3, step * 3 + 3, false);
@@ -110,11 +113,19 @@ pub fn full_log(seed: u64, votes: usize) -> Vec<u8> {
 // A log of 128 members and 512 checkpoints in which everyone votes for so many links, all over the tree: by a bundle
 // for each link, or by single votes.
 pub fn carried_log(seed: u64, links: usize, bundled: bool) -> Vec<u8> {
-    let mut m = Maker::full_tree(seed);
+    let mut m = Maker::full_tree(seed, 3);
     let everyone = m.member_places();
     for source in (0..links).map(|k| 15 * k) {
         m.carry(&everyone, source, source + 3, bundled);
     }
+    m.log
+}
+
+// A log of 128 members and a chain of 512 checkpoints, of which so many are final: everyone votes for the first steps.
+pub fn finals_log(seed: u64, finals: usize) -> Vec<u8> {
+    let mut m = Maker::full_tree(seed, 1);
+    let everyone = m.member_places();
+    (0..finals).for_each(|source| m.carry(&everyone, source, source + 1, true));
     m.log
 }
 
@@ -139,19 +150,20 @@ pub fn named_log(naming: Naming, checkpoints: usize, members: u16) -> Vec<u8> {
 }
 
 impl Maker {
-    fn new(mut random: Random) -> Maker {
+    pub fn new(mut random: Random) -> Maker {
         let naming = random.pick(&[Naming::Random, Naming::Last, Naming::First, Naming::Middle, Naming::FirstAndLast]);
-        Maker { random, log: Vec::new(), ids: Vec::new(), tree: Vec::new(), votes: Vec::new(), naming, last_record: 0 }
+        let (log, ids, tree, votes) = (Vec::new(), Vec::new(), Vec::new(), Vec::new());
+        Maker { random, log, ids, tree, gone: 0, votes, naming, last_record: 0 }
     }
 
-    // 128 members, and 512 checkpoints in three long branches.
-    fn full_tree(seed: u64) -> Maker {
+    // 128 members, and 512 checkpoints in so many long branches.
+    fn full_tree(seed: u64, branches: usize) -> Maker {
         let mut m = Maker::new(Random::of_case(seed, 3, 0));
         m.naming = Naming::Random;
         m.begin();
         m.fill_members(MAX_MEMBERS);
         while m.tree.len() < MAX_CHECKPOINTS {
-            let parent = m.tree.len().saturating_sub(3);
+            let parent = m.tree.len().saturating_sub(branches);
             m.checkpoint(parent);
         }
         m
@@ -159,7 +171,7 @@ impl Maker {
 
     // ---- records ----
 
-    fn begin(&mut self) {
+    pub fn begin(&mut self) {
         let root = match self.naming {
             Naming::Random => self.fresh_name(),
             _ => [0; 32],
@@ -171,9 +183,9 @@ impl Maker {
     }
 
     // A name that is most likely not in the tree yet.
-    fn fresh_name(&mut self) -> Name {
+    pub fn fresh_name(&mut self) -> Name {
         let mut name = [0; 32];
-        let number = (self.tree.len() as u16).to_be_bytes();
+        let number = ((self.tree.len() + self.gone) as u16).to_be_bytes();
         match self.naming {
             Naming::Random => name.copy_from_slice(&self.random.bytes(32)),
             Naming::Last => name[30..].copy_from_slice(&number),
@@ -191,14 +203,14 @@ impl Maker {
         self.log.extend(bond.to_be_bytes());
     }
 
-    fn put_checkpoint(&mut self, name: Name, parent: Name) {
+    pub fn put_checkpoint(&mut self, name: Name, parent: Name) {
         self.last_record = self.log.len();
         self.log.push(2);
         self.log.extend(name);
         self.log.extend(parent);
     }
 
-    fn put_vote(&mut self, id: u16, source: Spot, target: Spot) {
+    pub fn put_vote(&mut self, id: u16, source: Spot, target: Spot) {
         self.last_record = self.log.len();
         self.log.push(3);
         self.log.extend(id.to_be_bytes());
@@ -213,7 +225,7 @@ impl Maker {
     }
 
     // A bundle with the bits of these places.
-    fn put_bundle(&mut self, places: &[usize], source: Spot, target: Spot) {
+    pub fn put_bundle(&mut self, places: &[usize], source: Spot, target: Spot) {
         let mut bits = [0; MAX_MEMBERS / 8];
         for p in places {
             bits[p / 8] |= 1 << (p % 8);
@@ -237,20 +249,25 @@ impl Maker {
     }
 
     // A new checkpoint under a place of the tree.
-    fn checkpoint(&mut self, parent: usize) -> usize {
+    pub fn checkpoint(&mut self, parent: usize) -> usize {
         let name = self.fresh_name();
+        self.named_checkpoint(name, parent)
+    }
+
+    // Past the greatest height there is room for none, whatever its record says.
+    pub fn named_checkpoint(&mut self, name: Name, parent: usize) -> usize {
         let above = self.tree[parent].name;
-        let height = self.tree[parent].height + 1;
+        let height = self.tree[parent].height.wrapping_add(1);
         self.put_checkpoint(name, above);
         self.tree.push(Node { name, parent, height });
         self.tree.len() - 1
     }
 
-    fn at(&self, place: usize) -> Spot {
+    pub fn at(&self, place: usize) -> Spot {
         (self.tree[place].name, self.tree[place].height)
     }
 
-    fn vote(&mut self, id: u16, source: usize, target: usize) {
+    pub fn vote(&mut self, id: u16, source: usize, target: usize) {
         let (s, t) = (self.at(source), self.at(target));
         self.put_vote(id, s, t);
         self.votes.push((id, source, target));
@@ -266,13 +283,36 @@ impl Maker {
     }
 
     // Votes of the members at these places for one link: a bundle, or single votes.
-    fn carry(&mut self, places: &[usize], source: usize, target: usize, bundled: bool) {
+    pub fn carry(&mut self, places: &[usize], source: usize, target: usize, bundled: bool) {
         if bundled {
             return self.bundle(places, source, target);
         }
         for p in places {
             self.vote(self.ids[*p], source, target);
         }
+    }
+
+    // ---- the tree, as it is held ----
+
+    pub fn places(&self) -> usize {
+        self.tree.len()
+    }
+
+    pub fn parent(&self, place: usize) -> usize {
+        self.tree[place].parent
+    }
+
+    // Of each member and each height, the link of its last vote for a target there.
+    pub fn last_votes(&self) -> HashMap<(u16, u32), (usize, usize)> {
+        self.votes.iter().map(|(id, source, target)| ((*id, self.tree[*target].height), (*source, *target))).collect()
+    }
+
+    // The tree and the votes are what the witness holds, whatever the log had made of them.
+    pub fn hold(&mut self, w: &Witness) {
+        let node = |(name, c): (Name, &Checkpoint)| Node { name, parent: c.parent.unwrap_or(0), height: c.height };
+        self.gone += self.tree.len();
+        self.tree = w.names().into_iter().zip(&w.checkpoints).map(node).collect();
+        self.votes = w.votes.iter().map(|v| (v.member, v.source, v.target)).collect();
     }
 
     // ---- parts of a log ----
@@ -295,7 +335,7 @@ impl Maker {
     }
 
     // Some quorums, or none.
-    fn quorums(&mut self) {
+    pub fn quorums(&mut self) {
         for _ in 0..self.random.pick(&[0, 0, 1, 1, 2]) {
             let quota = quota(&mut self.random);
             self.put_quorum(quota);
@@ -303,7 +343,7 @@ impl Maker {
     }
 
     // Members, with quorums before them, between them or after them.
-    fn members(&mut self, count: usize) {
+    pub fn members(&mut self, count: usize) {
         let before = self.random.pick(&[0, count / 2, count]);
         self.some_members(before);
         self.quorums();
@@ -322,7 +362,7 @@ impl Maker {
     }
 
     // Exactly so many members, with distinct ids in no order.
-    fn fill_members(&mut self, count: usize) {
+    pub fn fill_members(&mut self, count: usize) {
         let step = self.random.pick(&[1, 3, 257, 511]);
         for i in 0..count {
             let bond = self.random.pick(&[1, 2, 3, MAX_BOND]);
@@ -331,7 +371,7 @@ impl Maker {
     }
 
     // A tree: deep, wide, or anyhow.
-    fn tree(&mut self, count: usize) {
+    pub fn tree(&mut self, count: usize) {
         let shape = self.random.below(4);
         for _ in 0..count {
             let last = self.tree.len() - 1;
@@ -355,7 +395,7 @@ impl Maker {
     }
 
     // A link: a place that is not the root, and an ancestor of it.
-    fn some_link(&mut self) -> Option<(usize, usize)> {
+    pub fn some_link(&mut self) -> Option<(usize, usize)> {
         if self.tree.len() < 2 {
             return None;
         }
@@ -366,7 +406,7 @@ impl Maker {
     }
 
     // Votes of all members for one link, or of most of them.
-    fn push(&mut self, source: usize, target: usize) {
+    pub fn push(&mut self, source: usize, target: usize) {
         let absent = self.random.pick(&[1000, 8, 3]);
         let bundled = self.random.one_in(3);
         let mut places = if bundled { self.member_places() } else { (0..self.ids.len()).collect() };
@@ -375,7 +415,7 @@ impl Maker {
     }
 
     // Votes for any link, most of them single ones.
-    fn votes(&mut self, count: usize) {
+    pub fn votes(&mut self, count: usize) {
         for _ in 0..count {
             if self.ids.is_empty() {
                 return;
@@ -390,12 +430,12 @@ impl Maker {
     }
 
     // The places of all members that the witness has room for.
-    fn member_places(&self) -> Vec<usize> {
+    pub fn member_places(&self) -> Vec<usize> {
         (0..self.ids.len().min(MAX_MEMBERS)).collect()
     }
 
     // Places of members: all, about half of them, fewer, or one or two. There are none only where there is no member.
-    fn some_places(&mut self) -> Vec<usize> {
+    pub fn some_places(&mut self) -> Vec<usize> {
         let mut places = self.member_places();
         let count = places.len().max(1);
         let (one, share) = (self.random.below(count), self.random.pick(&[1, 2, 4, count]));
@@ -437,7 +477,7 @@ impl Maker {
     }
 
     // A record that most likely is refused; in the place of one now and then quorums, which come late here.
-    fn odd_record(&mut self) {
+    pub fn odd_record(&mut self) {
         match self.random.below(20) {
             0 => self.odd_member(),
             1 => {
@@ -460,7 +500,7 @@ impl Maker {
         }
     }
 
-    fn odd_member(&mut self) {
+    pub fn odd_member(&mut self) {
         let id = if self.ids.is_empty() || self.random.one_in(2) { self.some_id() } else { self.random.pick(&self.ids) };
         let bond = self.random.pick(&[0, 1, 5, MAX_BOND, MAX_BOND + 1, u64::MAX]);
         self.put_member(id, bond);

@@ -1,20 +1,24 @@
-// differential SEED LOGS LISTS: the static libraries beside the reference, on generated logs, lists of charges, states
-// and requests to a guard.
+// differential SEED LOGS LISTS: the static libraries beside the reference, on generated logs, lists of charges, states,
+// runs with moves of the root and requests to a guard.
 // Prints what was compared; on a difference the case and both answers, and fails. A case can be made again from its seed
 // and number.
 mod compare;
+mod growing;
 mod guard;
 mod library;
 mod lists;
 #[allow(dead_code)]
 mod logs;
+mod moves;
 mod paper;
 mod random;
 mod reference;
 mod report;
+mod runs;
 mod session;
 mod states;
 mod tally;
+mod unmoved;
 
 use random::Random;
 use std::process::exit;
@@ -65,12 +69,20 @@ fn compare_lists(seed: u64, count: usize, tally: &mut Tally) {
 
 fn compare_states(seed: u64, count: usize, tally: &mut Tally) {
     for number in 0..count {
-        let log = logs::log_with_charges(seed, number);
+        let log = states::log(seed, number);
         let mut w = Box::new(library::Witness::nothing().replay(&log).witness);
         let mut random = Random::of_case(seed, 6, number as u64);
-        states::disturb(&mut random, &mut w);
+        states::change(&mut random, &mut w);
         if let Err(difference) = compare::state(&w, &log, b"FFP\x00\x01\x00\x00", &mut random, tally) {
             fail(seed, "state", number, &difference);
+        }
+    }
+}
+
+fn compare_runs(seed: u64, count: usize, tally: &mut Tally) {
+    for number in 0..count {
+        if let Err(difference) = runs::compare(seed, number, tally) {
+            fail(seed, "run", number, &difference);
         }
     }
 }
@@ -90,14 +102,15 @@ fn main() {
     let mut tally = Tally::default();
     compare_logs(seed, logs, &mut tally);
     compare_lists(seed, lists, &mut tally);
-    compare_states(seed, lists / 4, &mut tally);
-    compare_guards(seed, lists / 10, &mut tally);
+    let (states, runs, guards) = (lists / 4, 3 * lists / 10, lists / 10);
+    compare_states(seed, states, &mut tally);
+    compare_runs(seed, runs, &mut tally);
+    compare_guards(seed, guards, &mut tally);
     tally.print();
     let missing = tally.missing();
     if !missing.is_empty() {
         println!("seed {seed}: never occurred: {}", missing.join(", "));
         exit(1);
     }
-    let (states, guards) = (lists / 4, lists / 10);
-    println!("seed {seed}: {logs} logs, {lists} lists, {states} states and {guards} guards agree");
+    println!("seed {seed}: {logs} logs, {lists} lists, {states} states, {runs} runs and {guards} guards agree");
 }

@@ -8,6 +8,9 @@ pub const MAX_VOTES: usize = 4096;
 pub const MAX_BOND: u64 = 1_000_000_000_000;
 pub const HEADER: usize = 37;
 
+// The greatest height that a root may have. 511 more steps end at the greatest number of 32 bits.
+pub const MAX_ROOT_HEIGHT: u32 = 4_294_966_784;
+
 // What a quorum needs: p of q parts of all bonds.
 #[derive(Clone, Copy, PartialEq, Eq, Debug)]
 pub struct Quota {
@@ -76,6 +79,31 @@ pub struct Charge {
     pub id: u16,
     pub earlier: usize,
     pub later: usize,
+}
+
+// Why the root is not moved.
+#[derive(Clone, Copy, PartialEq, Eq, Debug)]
+pub enum Hindrance {
+    NotHeld,
+    NotFinal,
+    TooHigh,
+    // two final checkpoints conflict
+    Conflict,
+    // a charge shown uses a vote to be dropped
+    Evidence,
+    // a vote to be dropped has a target higher than the new root
+    HigherVote,
+}
+
+impl Hindrance {
+    pub fn row(self) -> Refusal {
+        match self {
+            Hindrance::NotHeld => 41,
+            Hindrance::NotFinal | Hindrance::TooHigh => 70,
+            Hindrance::Conflict | Hindrance::Evidence => 71,
+            Hindrance::HigherVote => 72,
+        }
+    }
 }
 
 // What is held.
@@ -246,16 +274,34 @@ pub fn read_log(log: &[u8]) -> Reading {
 
 impl Witness {
     fn with_root(root: Name) -> Witness {
-        Witness {
-            given: None,
-            bonds: BTreeMap::new(),
-            members: Vec::new(),
-            places: HashMap::from([(root, 0)]),
-            checkpoints: vec![Checkpoint { parent: None, height: 0 }],
+        Witness::holding(None, Vec::new(), vec![(root, Checkpoint { parent: None, height: 0 })], Vec::new())
+    }
+
+    // A witness that holds these: the quorum given, members with their bonds, checkpoints by place, votes by number.
+    pub fn holding(
+        given: Option<Quota>,
+        members: Vec<(u16, u64)>,
+        tree: Vec<(Name, Checkpoint)>,
+        votes: Vec<Vote>,
+    ) -> Witness {
+        let mut w = Witness {
+            given,
+            bonds: members.iter().copied().collect(),
+            members: members.iter().map(|(id, _)| *id).collect(),
+            places: tree.iter().map(|(name, _)| *name).zip(0..).collect(),
+            checkpoints: tree.into_iter().map(|(_, checkpoint)| checkpoint).collect(),
             votes: Vec::new(),
             cast: HashSet::new(),
             links: HashMap::new(),
-        }
+        };
+        votes.into_iter().for_each(|vote| w.hold_vote(vote));
+        w
+    }
+
+    fn hold_vote(&mut self, vote: Vote) {
+        self.cast.insert(vote);
+        self.votes.push(vote);
+        self.links.entry((vote.source, vote.target)).or_default().push(vote.member);
     }
 
     // The record at the start of what is left of a log: what it comes to, and how many bytes it has.
@@ -283,9 +329,9 @@ impl Witness {
         answer.map_or_else(Outcome::Refused, |()| Outcome::Taken)
     }
 
-    // What row 10 asks for.
+    // What row 10 asks for; since request K7 a root above height 0 is enough.
     fn members_fixed(&self) -> bool {
-        !self.votes.is_empty() || self.checkpoints.len() > 1
+        !self.votes.is_empty() || self.checkpoints.len() > 1 || self.checkpoints[0].height > 0
     }
 
     // Rows 63 and 64.
@@ -382,10 +428,15 @@ impl Witness {
         if self.votes.len() == MAX_VOTES {
             return Err(36);
         }
-        self.cast.insert(vote);
-        self.votes.push(vote);
-        self.links.entry((vote.source, vote.target)).or_default().push(vote.member);
+        self.hold_vote(vote);
         Ok(())
+    }
+
+    // The names, by place.
+    pub fn names(&self) -> Vec<Name> {
+        let mut names = vec![[0; 32]; self.checkpoints.len()];
+        self.places.iter().for_each(|(name, place)| names[*place] = *name);
+        names
     }
 
     // One or more parent steps from `place` lead to `ancestor`.
@@ -494,6 +545,58 @@ impl Witness {
         None
     }
 
+    // Rows 41 and 70 to 72, else the witness whose root is the checkpoint at this place.
+    pub fn move_root(&self, root: usize) -> Result<Witness, Hindrance> {
+        let hindrance = self.hindrances(root).first().copied();
+        hindrance.map_or_else(|| Ok(self.moved(root)), Err)
+    }
+
+    // All that hinders a move of the root, in the order of the checks. Nothing more is asked of a place not held.
+    pub fn hindrances(&self, root: usize) -> Vec<Hindrance> {
+        if root >= self.checkpoints.len() {
+            return vec![Hindrance::NotHeld];
+        }
+        let height = self.checkpoints[root].height;
+        let dropped = self.dropped_votes(root);
+        let uses_dropped = |c: &Charge| dropped.contains(&c.earlier) || dropped.contains(&c.later);
+        let higher = |number: &usize| self.heights(&self.votes[*number]).1 > height;
+        let all = [
+            (Hindrance::NotFinal, self.statuses()[root] != Status::Final),
+            (Hindrance::TooHigh, height > MAX_ROOT_HEIGHT),
+            (Hindrance::Conflict, self.conflict()),
+            (Hindrance::Evidence, self.charges().iter().any(uses_dropped)),
+            (Hindrance::HigherVote, dropped.iter().any(higher)),
+        ];
+        all.into_iter().filter(|(_, applies)| *applies).map(|(hindrance, _)| hindrance).collect()
+    }
+
+    // The places that stay when the root is moved, each with the one that it becomes.
+    fn counted_anew(&self, root: usize) -> BTreeMap<usize, usize> {
+        let stays = |place: &usize| *place == root || self.is_ancestor(root, *place);
+        (0..self.checkpoints.len()).filter(stays).zip(0..).collect()
+    }
+
+    // The numbers of the votes that a move of the root drops: an end of them does not stay.
+    pub fn dropped_votes(&self, root: usize) -> HashSet<usize> {
+        let stay = self.counted_anew(root);
+        let stays = |vote: &Vote| stay.contains_key(&vote.source) && stay.contains_key(&vote.target);
+        (0..self.votes.len()).filter(|number| !stays(&self.votes[*number])).collect()
+    }
+
+    fn moved(&self, root: usize) -> Witness {
+        let stay = self.counted_anew(root);
+        let anew = |place: usize| stay.get(&place).copied();
+        let names = self.names();
+        let checkpoint = |place: &usize| {
+            let Checkpoint { parent, height } = self.checkpoints[*place];
+            (names[*place], Checkpoint { parent: parent.and_then(anew), height })
+        };
+        let vote = |v: &Vote| Some(Vote { member: v.member, source: anew(v.source)?, target: anew(v.target)? });
+        let members = self.members.iter().map(|id| (*id, self.bonds[id])).collect();
+        let tree = stay.keys().map(checkpoint).collect();
+        Witness::holding(self.given, members, tree, self.votes.iter().filter_map(vote).collect())
+    }
+
     // Our list of charges.
     pub fn list(&self) -> Vec<u8> {
         let charges = self.charges();
@@ -571,15 +674,19 @@ pub fn report(log: &[u8]) -> String {
 
 pub fn report_of(reading: &Reading) -> String {
     let mut text = String::new();
-    for (record, number) in reading.refused() {
-        text += &format!("refused {record} number {number}\n");
+    for (record, row) in reading.refused() {
+        text += &refused_line(record, row);
     }
     text += &reading.stop_line().unwrap_or_else(|| standing(&reading.witness));
     text
 }
 
+pub fn refused_line(record: usize, row: Refusal) -> String {
+    format!("refused {record} number {row}\n")
+}
+
 // The report's lines on what is held: checkpoints, members, the total.
-fn standing(w: &Witness) -> String {
+pub fn standing(w: &Witness) -> String {
     let mut text = String::new();
     for (place, status) in w.statuses().into_iter().enumerate() {
         text += &format!("checkpoint {place} height {} {}\n", w.checkpoints[place].height, word(status));

@@ -70,6 +70,20 @@ fn feed(
     Ok((piece, text))
 }
 
+// The records from an offset to the log's end, in as many calls as they need: what they leave, and the lines.
+pub fn feed_all(w: &Witness, records: u64, log: &[u8], at: usize) -> Result<(Box<Witness>, Vec<u8>), String> {
+    let mut buffer = vec![UNWRITTEN; 2 * ROOM];
+    let mut piece = w.feed(records, log, at, &mut buffer);
+    let mut text = written(&buffer, &piece)?;
+    while piece.pause == FULL && piece.next > at {
+        buffer.fill(UNWRITTEN);
+        piece = piece.witness.feed(piece.records, log, piece.next, &mut buffer);
+        text.extend(written(&buffer, &piece)?);
+    }
+    same("fed to the end", (piece.pause, piece.next), (WANTS, log.len()))?;
+    Ok((Box::new(piece.witness), text))
+}
+
 // A buffer without room for one record's lines is full before anything is read, whatever is there.
 fn no_room(rest: &[u8], at: usize, last: &Piece, random: &mut Random) -> Same {
     let any = random.below(ROOM);
@@ -93,17 +107,16 @@ fn no_number_left(rest: &[u8], last: &Piece) -> Same {
 }
 
 // The log's end, into a buffer with much room, one that is just long enough and one that is a byte too short.
-fn close(log: &[u8], passed: usize, last: &Piece) -> Result<Vec<u8>, String> {
+pub fn close(w: &Witness, records: u64, left: usize) -> Result<Vec<u8>, String> {
     let mut buffer = vec![UNWRITTEN; SUMMARY];
-    let left = log.len() - passed;
-    let piece = last.witness.close(last.records, left, &mut buffer);
-    same("the end", (piece.pause, piece.witness == last.witness), (ENDED, true))?;
+    let piece = w.close(records, left, &mut buffer);
+    same("the end", (piece.pause, piece.witness == *w), (ENDED, true))?;
     let text = written(&buffer, &piece)?;
     let mut short = vec![UNWRITTEN; text.len()];
-    let small = last.witness.close(last.records, left, &mut short[1..]);
+    let small = w.close(records, left, &mut short[1..]);
     same("no room at the end", (small.pause, small.written), (FULL, 0))?;
     same("no room, no text", is_unwritten(&short), true)?;
-    let exact = last.witness.close(last.records, left, &mut short);
+    let exact = w.close(records, left, &mut short);
     same("just enough room", (exact.pause, short == text), (ENDED, true))?;
     Ok(text)
 }
@@ -128,7 +141,7 @@ fn fed(log: &[u8], before: &Witness, random: &mut Random) -> Result<Vec<u8>, Str
             ENDED | FULL => {}
             WANTS if end < log.len() => end = next_end(log, end, random),
             WANTS => {
-                text.extend(close(log, passed, &piece)?);
+                text.extend(close(&piece.witness, piece.records, log.len() - passed)?);
                 break;
             }
             refused => return Err(format!("the report is refused: {refused}")),

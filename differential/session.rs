@@ -1,6 +1,6 @@
-// The cases that document 01 works out, and a report of bundles, three papers and quorums worked out by hand, against
-// the reference: its own check, made before anything is compared with it.
-use crate::reference::{self, Outcome, Quota, STANDARD};
+// The cases that document 01 works out, and a report of bundles, three papers, quorums and moves of the root worked out
+// by hand, against the reference: its own check, made before anything is compared with it.
+use crate::reference::{self, Charge, Checkpoint, Hindrance, Outcome, Quota, Vote, Witness, STANDARD};
 
 const REPORT: &str = "refused 15 number 35
 checkpoint 0 height 0 final
@@ -46,6 +46,23 @@ member 1 bond 1 clear
 member 2 bond 2 broken 1 4
 member 3 bond 1 clear
 total 4 named 2 conflict yes
+";
+
+// What is said of `movable` after a move to A, and of that after a move to B.
+const MOVED_TO_A: &str = "checkpoint 0 height 1 final
+checkpoint 1 height 2 justified
+checkpoint 2 height 3 plain
+member 1 bond 1 clear
+member 2 bond 1 clear
+member 3 bond 1 clear
+total 3 named 0 conflict no
+";
+const MOVED_TO_B: &str = "checkpoint 0 height 2 final
+checkpoint 1 height 3 justified
+member 1 bond 1 clear
+member 2 bond 1 clear
+member 3 bond 1 clear
+total 3 named 0 conflict no
 ";
 
 // The rows of the session's paper.
@@ -265,11 +282,134 @@ fn check_quorums() {
     assert_eq!(reference::report(&quorums()), QUORUM_REPORT);
 }
 
-// Every case that the document marks, the header alone as request K1 words it; the papers, the bundles, the quorums.
+const ROOT: (u8, u32) = (b'r', 0);
+const A: (u8, u32) = (b'A', 1);
+const B: (u8, u32) = (b'B', 2);
+const C: (u8, u32) = (b'C', 3);
+const X: (u8, u32) = (b'X', 1);
+
+// A and X under the root, B under A, C under B. Members 1 and 2 carry root → A and A → B; 3 votes for X and 1 for C.
+fn movable() -> Vec<u8> {
+    let mut log = header(ROOT.0);
+    (1..=3).for_each(|id| member(&mut log, id, 1));
+    for (child, parent) in [(A, ROOT), (X, ROOT), (B, A), (C, B)] {
+        checkpoint(&mut log, child.0, parent.0);
+    }
+    for (id, from, to) in [(1, ROOT, A), (2, ROOT, A), (3, ROOT, X), (1, A, B), (2, A, B), (1, B, C)] {
+        vote(&mut log, id, from, to);
+    }
+    log
+}
+
+// What each record comes to.
+fn read_all(w: &mut Witness, records: &[u8]) -> Vec<Outcome> {
+    let mut outcomes = Vec::new();
+    let mut at = 0;
+    while at < records.len() {
+        let (outcome, length) = w.read(&records[at..]);
+        outcomes.push(outcome);
+        at += length;
+    }
+    outcomes
+}
+
+fn hindrance(w: &Witness, place: usize) -> Option<Hindrance> {
+    w.move_root(place).err()
+}
+
+fn votes(cast: &[(u16, usize, usize)]) -> Vec<Vote> {
+    cast.iter().map(|(member, source, target)| Vote { member: *member, source: *source, target: *target }).collect()
+}
+
+// A move to A, records after it, and a move from there to B. The votes dropped have targets no higher than the new
+// root: itself, and X of the same height, which is given again under A and then has the height of B.
+fn check_two_moves() {
+    let held = reference::read_log(&movable()).witness;
+    let hindrances = [2, 3, 4, 5, 65535].map(|place| hindrance(&held, place));
+    let (plain, unknown) = (Some(Hindrance::NotFinal), Some(Hindrance::NotHeld));
+    assert_eq!(hindrances, [plain, plain, plain, unknown, unknown]);
+    let mut to_a = held.move_root(1).expect("a move");
+    assert_eq!(reference::standing(&to_a), MOVED_TO_A);
+    assert_eq!(to_a.names(), [b'A', b'B', b'C'].map(|letter| [letter; 32]));
+    assert_eq!(to_a.votes, votes(&[(1, 0, 1), (2, 0, 1), (1, 1, 2)]));
+    let mut more = Vec::new();
+    member(&mut more, 4, 1);
+    more.extend([4, 0, 3, 0, 4]);
+    checkpoint(&mut more, b'Y', ROOT.0);
+    vote(&mut more, 3, ROOT, B);
+    vote(&mut more, 3, A, X);
+    checkpoint(&mut more, X.0, A.0);
+    vote(&mut more, 3, A, X);
+    vote(&mut more, 3, A, (X.0, 2));
+    vote(&mut more, 1, A, B);
+    vote(&mut more, 2, B, C);
+    let (taken, refused) = (Outcome::Taken, Outcome::Refused);
+    let expected = [10, 63, 21, 31, 32].map(refused).into_iter().chain([taken.clone(), refused(33), taken.clone()]);
+    assert_eq!(read_all(&mut to_a, &more), expected.chain([refused(35), taken]).collect::<Vec<_>>());
+    let to_b = to_a.move_root(1).expect("a move");
+    assert_eq!(reference::standing(&to_b), MOVED_TO_B);
+    assert_eq!(to_b.votes, votes(&[(1, 0, 1), (2, 0, 1)]));
+    let mut higher = Vec::new();
+    vote(&mut higher, 3, A, C);
+    assert_eq!(read_all(&mut to_a, &higher), [Outcome::Taken]);
+    assert_eq!(hindrance(&to_a, 1), Some(Hindrance::HigherVote));
+}
+
+// Row 71: finals that conflict hinder every move; a charge shown hinders a move that drops a vote of it, and another
+// pair of its member does not.
+fn check_evidence() {
+    let conflicting = reference::read_log(&worked()).witness;
+    let (conflict, plain) = (Some(Hindrance::Conflict), Some(Hindrance::NotFinal));
+    assert_eq!([0, 1, 2, 3].map(|place| hindrance(&conflicting, place)), [conflict, conflict, conflict, plain]);
+    let mut log = movable();
+    vote(&mut log, 3, ROOT, A);
+    let charged = reference::read_log(&log).witness;
+    assert_eq!(hindrance(&charged, 1), Some(Hindrance::Evidence));
+    let to_root = charged.move_root(0).expect("a move");
+    assert_eq!((to_root.votes.clone(), to_root.charges()), (charged.votes.clone(), charged.charges()));
+    // the votes of 3 for two checkpoints of height 2 come before those for two of height 1
+    let mut log = movable()[..movable().len() - 6 * 75].to_vec();
+    checkpoint(&mut log, b'D', A.0);
+    for (id, from, to) in [(3, A, B), (3, A, (b'D', 2)), (3, ROOT, A), (3, ROOT, X)] {
+        vote(&mut log, id, from, to);
+    }
+    for (id, from, to) in [(1, ROOT, A), (2, ROOT, A), (1, A, B), (2, A, B)] {
+        vote(&mut log, id, from, to);
+    }
+    let moved = reference::read_log(&log).witness.move_root(1).expect("a move");
+    assert_eq!(moved.charges(), [Charge { id: 3, earlier: 0, later: 1 }]);
+    assert_eq!(moved.votes, votes(&[(3, 0, 1), (3, 0, 3), (1, 0, 1), (2, 0, 1)]));
+}
+
+// A chain of four whose one member votes for each step, with the root one below the limit; and a root alone.
+fn check_heights() {
+    let step = |place: u8| {
+        let parent = place.checked_sub(1).map(usize::from);
+        ([place; 32], Checkpoint { parent, height: 4_294_966_783 + u32::from(place) })
+    };
+    let cast = votes(&[(1, 0, 1), (1, 1, 2), (1, 2, 3)]);
+    let chain = Witness::holding(None, vec![(1, 1)], (0..4).map(step).collect(), cast);
+    let (too_high, plain) = (Some(Hindrance::TooHigh), Some(Hindrance::NotFinal));
+    assert_eq!([0, 1, 2, 3].map(|place| hindrance(&chain, place)), [None, None, too_high, plain]);
+    for (height, outcomes) in [(0, [Outcome::Taken, Outcome::Taken]), (1, [10, 63].map(Outcome::Refused))] {
+        let root = Checkpoint { parent: None, height };
+        let mut alone = Witness::holding(None, Vec::new(), vec![([0; 32], root)], Vec::new());
+        let mut records = Vec::new();
+        member(&mut records, 1, 1);
+        records.extend([4, 0, 3, 0, 4]);
+        assert_eq!(read_all(&mut alone, &records), outcomes);
+    }
+}
+
+// Every case that the document marks, the header alone as request K1 words it; the papers, the bundles, the quorums,
+// the moves of the root.
 pub fn check() {
     check_papers();
     check_bundles();
     check_quorums();
+    check_two_moves();
+    check_evidence();
+    check_heights();
     let log = worked();
     assert_eq!(reference::report(&log), REPORT);
     let reading = reference::read_log(&log);

@@ -1,18 +1,25 @@
 // States that are handed in: row 40 on the arrays, judged from the words of its row, and states with something broken.
+use crate::growing;
 use crate::library::{Numbers, Witness};
 use crate::logs;
 use crate::random::Random;
-use crate::reference::{Quota, MAX_BOND, MAX_CHECKPOINTS, MAX_MEMBERS, MAX_VOTES};
+use crate::reference::{self, Checkpoint, Quota, Vote};
+use crate::reference::{MAX_BOND, MAX_CHECKPOINTS, MAX_MEMBERS, MAX_ROOT_HEIGHT, MAX_VOTES};
 use std::collections::HashSet;
 
 // Whether row 40 lets the state pass.
 pub fn is_sound(w: &Witness) -> bool {
-    rule_sound(w) && rest_sound(w)
+    rule_sound(w) && root_sound(w) && rest_sound(w)
 }
 
 // What is given, where it alone is not sound.
 pub fn rule_alone(w: &Witness) -> Option<Quota> {
-    if !rule_sound(w) && rest_sound(w) { Some(given(w)) } else { None }
+    if !rule_sound(w) && root_sound(w) && rest_sound(w) { Some(given(w)) } else { None }
+}
+
+// Whether the root's height alone is not sound.
+pub fn root_alone(w: &Witness) -> bool {
+    rule_sound(w) && !root_sound(w) && rest_sound(w)
 }
 
 fn rest_sound(w: &Witness) -> bool {
@@ -39,6 +46,11 @@ fn rule_sound(w: &Witness) -> bool {
     !is_given(w) || given(w).is_permitted()
 }
 
+// The root's height is anything up to its limit.
+fn root_sound(w: &Witness) -> bool {
+    w.heights[0] <= MAX_ROOT_HEIGHT
+}
+
 fn members_sound(w: &Witness) -> bool {
     let ids: HashSet<u16> = w.ids[..w.member_count].iter().copied().collect();
     ids.len() == w.member_count && w.bonds[..w.member_count].iter().all(|b| (1..=MAX_BOND).contains(b))
@@ -50,7 +62,7 @@ fn tree_sound(w: &Witness) -> bool {
         let parent = w.parents[p] as usize;
         parent < p && w.heights[p] as u64 == w.heights[parent] as u64 + 1
     };
-    names.len() == w.checkpoint_count && w.heights[0] == 0 && (1..w.checkpoint_count).all(climbs)
+    names.len() == w.checkpoint_count && (1..w.checkpoint_count).all(climbs)
 }
 
 fn is_ancestor(w: &Witness, ancestor: u16, mut place: u16) -> bool {
@@ -77,34 +89,62 @@ fn votes_sound(w: &Witness) -> bool {
     })
 }
 
-// A log of what a sound state holds: the quorum given, its members, then its checkpoints, then its votes.
-pub fn log_of(w: &Witness) -> Vec<u8> {
-    let name = |place: u16| &w.names[32 * usize::from(place)..][..32];
-    let height = |place: u16| w.heights[usize::from(place)].to_be_bytes();
-    let mut log = [b"FFW\x00\x01", name(0)].concat();
-    if is_given(w) {
-        log.extend([&[4], &w.numbers.p.to_be_bytes()[..], &w.numbers.q.to_be_bytes()].concat());
+// What a sound state holds, as the reference has it. A root that was moved up comes from no log.
+pub fn held_by(w: &Witness) -> reference::Witness {
+    let checkpoint = |place: usize| {
+        let name = w.names[32 * place..][..32].try_into().expect("32 bytes");
+        let parent = if place == 0 { None } else { Some(w.parents[place].into()) };
+        (name, Checkpoint { parent, height: w.heights[place] })
+    };
+    let given = if is_given(w) { Some(given(w)) } else { None };
+    let members = (0..w.member_count).map(|i| (w.ids[i], w.bonds[i])).collect();
+    let tree = (0..w.checkpoint_count).map(checkpoint).collect();
+    reference::Witness::holding(given, members, tree, votes(w))
+}
+
+// The votes held, by number.
+pub fn votes(w: &Witness) -> Vec<Vote> {
+    let cast = |i: usize| Vote { member: w.voters[i], source: w.sources[i].into(), target: w.targets[i].into() };
+    (0..w.vote_count).map(cast).collect()
+}
+
+// A log for a state: one with charges, one of a chain that is carried on, or one of as many steps as a tree can have.
+pub fn log(seed: u64, number: usize) -> Vec<u8> {
+    match number % 12 {
+        7 => logs::named_log(logs::Naming::Last, MAX_CHECKPOINTS, 0),
+        k if k % 3 == 0 => growing::chain_log(seed, number),
+        _ => logs::log_with_charges(seed, number),
     }
-    for i in 0..w.member_count {
-        log.extend([&[1], &w.ids[i].to_be_bytes()[..], &w.bonds[i].to_be_bytes()].concat());
+}
+
+// The whole tree, so much higher.
+pub fn raise(w: &mut Witness, by: u32) {
+    w.heights[..w.checkpoint_count].iter_mut().for_each(|height| *height = height.wrapping_add(by));
+}
+
+// A state that a log left, raised or not, and then most likely disturbed.
+pub fn change(random: &mut Random, w: &mut Witness) {
+    if w.checkpoint_count == MAX_CHECKPOINTS || random.one_in(2) {
+        raise_somehow(random, w);
     }
-    for place in 1..w.checkpoint_count {
-        log.extend([&[2], name(place as u16), name(w.parents[place])].concat());
+    if !random.one_in(4) {
+        disturb(random, w);
     }
-    for i in 0..w.vote_count {
-        let (source, target) = (w.sources[i], w.targets[i]);
-        log.extend([&[3], &w.voters[i].to_be_bytes()[..], name(source), name(target)].concat());
-        log.extend([height(source), height(target)].concat());
-    }
-    log
+}
+
+// The whole tree raised: by little, to the root's limit, or so that some checkpoint is there; by one more or less too.
+fn raise_somehow(random: &mut Random, w: &mut Witness) {
+    let there = MAX_ROOT_HEIGHT - w.heights[random.below(w.checkpoint_count)];
+    let by = random.pick(&[1, 1000, there, there, MAX_ROOT_HEIGHT, MAX_ROOT_HEIGHT]);
+    raise(w, by.wrapping_add(random.pick(&[0, 0, 0, 1, u32::MAX])));
 }
 
 // Something changed in a state, most likely so that row 40 applies; sometimes past what is held, where it does not.
-pub fn disturb(random: &mut Random, w: &mut Witness) {
+fn disturb(random: &mut Random, w: &mut Witness) {
     let member = random.below(w.member_count.max(1));
     let place = random.below(w.checkpoint_count.max(1));
     let vote = random.below(w.vote_count.max(1));
-    match random.below(21) {
+    match random.below(23) {
         0 => w.checkpoint_count = 0,
         1 => w.member_count = random.pick(&[129, 1000, usize::MAX]),
         2 => w.checkpoint_count = random.pick(&[513, 1 << 32, usize::MAX]),
@@ -112,7 +152,7 @@ pub fn disturb(random: &mut Random, w: &mut Witness) {
         4 => w.bonds[member] = random.pick(&[0, MAX_BOND, MAX_BOND + 1, u64::MAX]),
         5 => w.ids[member] = w.ids[random.below(w.member_count.max(1))],
         6 => w.heights[place] = w.heights[place].wrapping_add(random.pick(&[1, u32::MAX, 1 << 16])),
-        7 => w.heights[0] = random.pick(&[1, u32::MAX]),
+        7 => w.heights[0] = random.pick(&[1, MAX_ROOT_HEIGHT, MAX_ROOT_HEIGHT + 1, u32::MAX]),
         8 => w.parents[place] = random.pick(&[place as u16, 511, 512, 65535, 0]),
         9 => {
             let other = random.below(w.checkpoint_count.max(1));

@@ -1,6 +1,9 @@
 // What occurred, counted: a generator that misses a row of the table compares nothing there.
+use crate::library;
 use crate::paper::{self, Link};
-use crate::reference::{Outcome, Quota, Reading, Refusal, Status, Witness, MAX_BOND, MAX_MEMBERS, STANDARD};
+use crate::reference::{Hindrance, Outcome, Quota, Reading, Refusal, Status, Vote, Witness};
+use crate::reference::{MAX_BOND, MAX_MEMBERS, MAX_ROOT_HEIGHT, STANDARD};
+use crate::states;
 use std::collections::BTreeMap;
 
 #[derive(Default)]
@@ -8,9 +11,9 @@ pub struct Tally(BTreeMap<String, u64>);
 
 // Every row of the table and of the requests done, the rows that a bundle's votes may meet, every answer, what becomes
 // of bundles, what a quorum that was given makes of a witness, and what papers have to show.
-const ROWS: [Refusal; 37] = [
+const ROWS: [Refusal; 40] = [
     1, 2, 3, 4, 5, 10, 11, 12, 13, 20, 21, 22, 30, 31, 32, 33, 34, 35, 36, 40, 41, 50, 51, 52, 53, 54, 55, 56, 57, 60,
-    61, 62, 63, 64, 65, 66, 67,
+    61, 62, 63, 64, 65, 66, 67, 70, 71, 72,
 ];
 const BUNDLED_ROWS: [Refusal; 6] = [31, 32, 33, 34, 35, 36];
 const ANSWERS: [&str; 9] = [
@@ -72,6 +75,59 @@ pub const GUARDED: [&str; 16] = [
     "vote in a bundle that a guard refuses",
 ];
 
+// Why a move of the root is refused, in the order of `Hindrance`.
+const HINDERED: [&str; 6] = [
+    "move refused 41",
+    "move refused 70 by a place that is not final",
+    "move refused 70 by the height",
+    "move refused 71 by a conflict",
+    "move refused 71 by a charge shown",
+    "move refused 72",
+];
+const ORDERED: [&str; 5] = [
+    "move refused 70 one above the greatest height",
+    "move refused 70 by the height where 71 or 72 applies too",
+    "move refused 70 where 71 applies too",
+    "move refused 71 where 72 applies too",
+    "move to place 0 refused 71",
+];
+const MOVED: [&str; 9] = [
+    "move of the root up",
+    "move of the root to place 0",
+    "move that drops votes",
+    "move that drops a vote into the new root",
+    "move that drops a vote of the new root's height on another branch",
+    "move that drops a checkpoint higher than the new root",
+    "move that drops checkpoints and keeps others at lower places than theirs",
+    "move up that keeps a charge shown",
+    "move to the greatest height",
+];
+// What records come to in a run with moves.
+pub const RUNS: [&str; 8] = [
+    "member refused by the root's height alone",
+    "quorum refused by the root's height alone",
+    "dropped name given again and taken",
+    "checkpoint refused by its dropped parent",
+    "vote refused by its dropped source",
+    "vote refused by its dropped target",
+    "checkpoint taken where there was no room before",
+    "vote taken where there was no room before",
+];
+const COMPARED: [&str; 5] = [
+    "run with a move up",
+    "run with two or more moves up",
+    "run compared with the witness that dropped nothing",
+    "run compared with the witness that dropped nothing, of two or more moves",
+    "run compared with the witness that dropped nothing, with charges",
+];
+const MOVES_COMPARED: &str = "move up in a run compared with the witness that dropped nothing";
+const ROOTS: [&str; 4] = [
+    "state sound with a root above height 0",
+    "state sound with its root at the greatest height, and a grandchild",
+    "state sound with a checkpoint at 4,294,967,295",
+    "state not sound by its root one above the greatest height alone",
+];
+
 const ALREADY_GIVEN: &str = "a quorum already given";
 
 fn why(k: Quota) -> Option<&'static str> {
@@ -102,6 +158,11 @@ impl Tally {
 
     pub fn occurred(&mut self, what: &str) {
         self.add(what);
+    }
+
+    // Those names whose condition holds.
+    pub fn which(&mut self, what: &[bool], names: &[&str]) {
+        what.iter().zip(names).filter(|(occurred, _)| **occurred).for_each(|(_, name)| self.add(name));
     }
 
     pub fn refused(&mut self, row: Refusal) {
@@ -136,6 +197,72 @@ impl Tally {
     // A state of which only the rule is not sound.
     pub fn rule(&mut self, quota: Quota) {
         self.add(&why_unsound(why(quota).expect("a quota that is not permitted")));
+    }
+
+    // How high a state's root is, and what it holds.
+    pub fn root(&mut self, w: &library::Witness, sound: bool) {
+        let root = w.heights[0];
+        let highest = w.heights.iter().take(w.checkpoint_count).max();
+        let what = [
+            sound && root > 0,
+            sound && root == MAX_ROOT_HEIGHT && highest >= Some(&(root + 2)),
+            sound && highest == Some(&u32::MAX),
+            root == MAX_ROOT_HEIGHT + 1 && states::root_alone(w),
+        ];
+        self.which(&what, &ROOTS);
+    }
+
+    // A move of the root, by the reference.
+    pub fn moving(&mut self, w: &Witness, root: usize, answer: &Result<Witness, Hindrance>) {
+        match answer {
+            Ok(after) => self.moved(w, root, after),
+            Err(hindrance) => self.hindered(w, root, *hindrance),
+        }
+    }
+
+    fn hindered(&mut self, w: &Witness, root: usize, hindrance: Hindrance) {
+        self.refused(hindrance.row());
+        self.add(HINDERED[hindrance as usize]);
+        let rows: Vec<Refusal> = w.hindrances(root).iter().map(|h| h.row()).collect();
+        let too_high = hindrance == Hindrance::TooHigh;
+        let what = [
+            too_high && w.checkpoints[root].height == MAX_ROOT_HEIGHT + 1,
+            too_high && rows.len() > 1,
+            rows[0] == 70 && rows.contains(&71),
+            rows[0] == 71 && rows.contains(&72),
+            rows[0] == 71 && root == 0,
+        ];
+        self.which(&what, &ORDERED);
+    }
+
+    fn moved(&mut self, w: &Witness, root: usize, after: &Witness) {
+        let height = w.checkpoints[root].height;
+        let dropped: Vec<Vote> = w.dropped_votes(root).into_iter().map(|number| w.votes[number]).collect();
+        let beside = |v: &Vote| v.target != root && w.checkpoints[v.target].height == height;
+        let stays = |place: usize| place == root || w.is_ancestor(root, place);
+        let (count, last) = (w.checkpoints.len(), after.checkpoints.len() - 1);
+        let what = [
+            root > 0,
+            root == 0,
+            !dropped.is_empty(),
+            dropped.iter().any(|v| v.target == root),
+            dropped.iter().any(beside),
+            (0..count).any(|place| !stays(place) && w.checkpoints[place].height > height),
+            (root..count).rev().find(|place| stays(*place)) > Some(root + last),
+            root > 0 && !after.charges().is_empty(),
+            root > 0 && height == MAX_ROOT_HEIGHT,
+        ];
+        self.which(&what, &MOVED);
+    }
+
+    // A run, by its moves up: whether it was compared to its end with the witness that dropped nothing, and whether
+    // members are charged then.
+    pub fn run(&mut self, moves: usize, compared: bool, charged: bool) {
+        let compared = compared && moves > 0;
+        self.which(&[moves > 0, moves > 1, compared, compared && moves > 1, compared && charged], &COMPARED);
+        if compared {
+            (0..moves).for_each(|_| self.add(MOVES_COMPARED));
+        }
     }
 
     pub fn state(&mut self, sound: bool) {
@@ -190,7 +317,7 @@ impl Tally {
             has(&|sum| quota.is_met(sum, total) && !STANDARD.is_met(sum, total)),
             q == 1000 && total == MAX_MEMBERS as u64 * MAX_BOND && has(&|sum| sum == total),
         ];
-        what.iter().zip(GIVEN).filter(|(occurred, _)| **occurred).for_each(|(_, name)| self.add(name));
+        self.which(&what, &GIVEN);
     }
 
     // A bundle that was not refused whole, by the row of each of its votes.
@@ -247,7 +374,9 @@ impl Tally {
     pub fn missing(&self) -> Vec<String> {
         let rows = ROWS.iter().map(|row| refused_name(*row));
         let bundled = BUNDLED_ROWS.iter().map(|row| bundled_name(*row));
-        let others = ANSWERS.iter().chain(&BUNDLES).chain(&GIVEN).chain(&PAPERS).chain(&GUARDED).map(|a| a.to_string());
+        let asked = ANSWERS.iter().chain(&BUNDLES).chain(&GIVEN).chain(&PAPERS).chain(&GUARDED);
+        let moved = HINDERED.iter().chain(&ORDERED).chain(&MOVED).chain(&RUNS).chain(&COMPARED).chain(&ROOTS);
+        let others = asked.chain(moved).map(|what| what.to_string());
         let refused = WHY.iter().chain([&ALREADY_GIVEN]).map(|reason| why_refused(reason));
         let unsound = WHY.iter().map(|reason| why_unsound(reason));
         let all = rows.chain(bundled).chain(refused).chain(unsound).chain(others);

@@ -19,6 +19,7 @@ use Rattle.codes.specs.declared.Backed.{Backed}
 use Rattle.codes.specs.declared.Begun.{Begun}
 use Rattle.codes.specs.declared.Read.{Read}
 use Rattle.codes.specs.declared.Replay.{Replay}
+use Rattle.codes.specs.declared.Moved.{Moved}
 use Rattle.codes.specs.declared.Piece.{Piece}
 use Rattle.codes.specs.declared.Tells.{Tells}
 
@@ -93,6 +94,11 @@ pub record IsRead (w : Witness) (d : Decision) (after : ℕ) (r : Read) : Type 0
   pub votes : r .votes ≡ valueOf votesNumber (brief (d .told))
   pub rows : r .rows ≡ padded (rowsOfVotes (d .told))
   pub next : r .next ≡ after
+  pub witness : r .witness ≡ stored w d
+
+-- `d` is what is decided on the move
+pub record IsMovedRoot (w : Witness) (d : Decision) (r : Moved) : Type 0 where
+  pub refused : r .refused ≡ rowOf (brief (d .told))
   pub witness : r .witness ≡ stored w d
 
 -- `f` is what a call for the report comes to, from the offset `at` on: the text stands at the buffer's start, and every other

@@ -68,6 +68,13 @@ pub struct Read {
     pub witness: Witness,
 }
 
+// What a move of the root came to, 0 where it was made and else the number of the refusal, and the witness afterwards.
+#[repr(C)]
+pub struct Moved {
+    pub refused: u64,
+    pub witness: Witness,
+}
+
 // Why a call for the report paused: 0 for more of the log, 1 for a buffer with more room, 2 at the report's end, 3
 // where no record number is left, and 256 plus the number of the refusal. Then the offset reached, the number of the
 // next record, how many bytes were written, and the witness afterwards.

@@ -7,6 +7,7 @@ use checker::CheckAnswer;
 use codes::Answered;
 use codes::Backed;
 use codes::Begun;
+use codes::Moved;
 use codes::Piece;
 use codes::Read;
 use codes::Replay;
@@ -18,7 +19,7 @@ ghost use lib.ListN.{length, drop};
 ghost use Rattle.model.specs.Evidence.{ourList};
 ghost use Rattle.model.specs.Log.{header};
 ghost use Rattle.model.specs.Paper.{paper};
-ghost use Rattle.model.specs.Run.{reading};
+ghost use Rattle.model.specs.Run.{reading, moving};
 ghost use Rattle.state.specs.Reading.{beginWith};
 ghost use Rattle.state.specs.Sound.{sound?};
 ghost use Rattle.witness.specs.Calls.{eventCall};
@@ -27,7 +28,7 @@ ghost use Rattle.answers.specs.Calls.{checkCall, statusCall, supportCall, confl
 ghost use Rattle.guarantee.specs.LogRead.{replayed};
 ghost use Rattle.feeding.specs.Feed.{openCall, feedCall, endCall};
 ghost use Rattle.codes.specs.Numbers.{statusNumber, yesNumber, IsAnswered, IsBacked, IsBegun, IsRead, IsReplayed};
-ghost use Rattle.codes.specs.Numbers.{IsPiece};
+ghost use Rattle.codes.specs.Numbers.{IsMovedRoot, IsPiece};
 
 // Reading a header: rows 1 to 3. Any state is taken; a refusal leaves it as it was.
 #[no_mangle]
@@ -89,6 +90,22 @@ pub extern "C" fn ffw_read(w: Witness, log: &[u8], at: usize) -> Read
         votes: told.votes,
         rows,
         next,
+        witness,
+    }
+}
+
+// Moving the root up to a place: rows 40, 41, 70, 71 and 72, which leave the state as it was. Else that place is the
+// root, with its height kept, and what is not at it or below it in the tree is dropped.
+#[no_mangle]
+pub extern "C" fn ffw_move_root(w: Witness, place: Place) -> Moved
+    ensures { λ r. ⌜ IsMovedRoot w (eventCall w (moving (place .0))) r ⌝ }
+{
+    let moved = witness::move_root(w, place);
+    let outcome = moved.outcome;
+    let witness = moved.witness;
+    let answer = codes::tell(outcome);
+    Moved {
+        refused: answer.refused,
         witness,
     }
 }

@@ -15,14 +15,14 @@ use Rattle.model.specs.Bytes.{part, field}
 use Rattle.model.specs.Change.{Change, Told, nothingLeft, taken, bundled, Decision, decided, single, oneVote, together, whole}
 use Rattle.model.specs.Decide.{decideMember, decideCheckpoint, decideVote, decideEach, bundleIds, bitWithoutMember}
 use Rattle.model.specs.Decide.{noBitSet}
-use Rattle.model.specs.Decide.{decideBundle, decideQuorum, decideRecord, decide}
+use Rattle.model.specs.Decide.{decideBundle, decideQuorum, decideRecord, decide, decideMove}
 use Rattle.model.specs.Lists.{any, All, none, each}
 use Rattle.model.specs.Log.{Kind, memberKind, checkpointKind, voteKind, quorumKind, bundleKind, otherKind, kindOf}
 use Rattle.model.specs.Log.{sizeOf}
 use Rattle.model.specs.Log.{Record, cutRecord, recordSize, decodeAs, decode}
 use Rattle.model.specs.Model.{Model}
 use Rattle.model.specs.Report.{outcomeLine, outcomeLines}
-use Rattle.model.specs.Run.{Event, reading, OfBytes, decideEvent, after, outcomes}
+use Rattle.model.specs.Run.{Event, reading, moving, OfBytes, decideEvent, after, outcomes}
 use Rattle.model.specs.WellFormed.{WellFormed}
 use Rattle.model.proofs.Bundle.{vote, votes, events, Narrows, vote-read, decode-bundle, bundle-read, narrow, bundle-is-votes, refused-line}
 use Rattle.model.proofs.Fits.{vote-fits}
@@ -37,6 +37,7 @@ use Rattle.state.specs.declared.Witness.{Witness}
 use Rattle.state.proofs.Kept.{changes-kept, store-both}
 use Rattle.state.proofs.Sound.{sound-true, true-sound}
 use Rattle.witness.specs.Calls.{eventCall}
+use Rattle.comparison.specs.Compare.{ofReadings}
 use Rattle.guarantee.specs.Bundles.{IsRefused, byRow, BundlesAreVotes, RefusedWhole, BundlesRefusedWhole, onVotes, singles}
 use Rattle.guarantee.specs.Bundles.{inSingles, asSingle, apart, linesApart, RunInSingles, RunsAreSingles}
 use Rattle.guarantee.specs.Demand3.{witnessAfter, toldOf}
@@ -261,6 +262,15 @@ unfolding after
 book-both m [] fs = refl
 book-both m (e ∷ es) fs = book-both (decided m (decideEvent m e)) es fs
 
+-- the lines of the readings, with those of one event more
+lines-more : (e : Event) (es : List Event) (t : Answer Told) (ts : List (Answer Told))
+    → ((k : ℕ) → outcomeLine k t ≡ flatMap (outcomeLine k) (apart t))
+    → ((k : ℕ) → outcomeLines k (ofReadings es ts) ≡ linesApart k (ofReadings es ts))
+    → (k : ℕ) → outcomeLines k (ofReadings (e ∷ es) (t ∷ ts)) ≡ linesApart k (ofReadings (e ∷ es) (t ∷ ts))
+unfolding ofReadings outcomeLines linesApart
+lines-more (reading s) es t ts one later k = ap₂ _++_ (one k) (later (suc k))
+lines-more (moving r) es t ts one later k = later k
+
 -- one event: the votes leave and tell what it does, and have its lines
 record OneInSingles (w : Witness) (e : Event) : Type 0 where
   left : witnessAfter w (e ∷ []) ≡ witnessAfter w (singles (modelOf w) e)
@@ -268,8 +278,29 @@ record OneInSingles (w : Witness) (e : Event) : Type 0 where
   tells : apart (eventCall w e .told) ≡ toldOf w (singles (modelOf w) e)
   lines : (k : ℕ) → outcomeLine k (eventCall w e .told) ≡ flatMap (outcomeLine k) (apart (eventCall w e .told))
 
+-- an event of which no votes are told stands for itself
+alone : (w : Witness) (e : Event) → Plain (eventCall w e .told) → singles (modelOf w) e ≡ e ∷ [] → OneInSingles w e
+unfolding apart toldOf flatMap
+alone w e plain itself =
+    let one = on (eventCall w e .told) plain in
+    record {
+      left = ap (witnessAfter w) (sym itself);
+      book = ap (after (modelOf w)) (sym itself);
+      tells = one ∙ ap (toldOf w) (sym itself);
+      lines = λ k. sym (append-nil (outcomeLine k (eventCall w e .told))) ∙ ap (flatMap (outcomeLine k)) (sym one);
+    }
+  where
+    on : (t : Answer Told) → Plain t → apart t ≡ t ∷ []
+    on (refused n) h = refl
+    on (answer nothingLeft) h = refl
+    on (answer taken) h = refl
+
 one-in-singles : (w : Witness) → Typed w → sound? w ≡ true → (e : Event) → OneInSingles w e
 unfolding singles apart toldOf decideEvent flatMap
+one-in-singles w typed is-sound (moving r) =
+    let sound = sound-true w typed is-sound in
+    let here = ap (λ (d : Decision). d .told) (decided-is w (modelOf w) (holds w sound) (moving r)) in
+    alone w (moving r) (subst Plain (sym here) (single-plain (decideMove (modelOf w) r))) refl
 one-in-singles w typed is-sound (reading s) = ⊎-elim plain good (told-cases m s)
   where
     m : Model
@@ -278,21 +309,14 @@ one-in-singles w typed is-sound (reading s) = ⊎-elim plain good (told-cases m 
     here : eventCall w (reading s) .told ≡ decide m s .told
     here = ap (λ (d : Decision). d .told) (decided-here w (sound-true w typed is-sound) s)
 
-    plain-is : (t : Answer Told) → Plain t → (votes else : List Event) → (apart t ≡ t ∷ []) × (onVotes t votes else ≡ else)
-    plain-is (refused n) h votes else = (refl, refl)
-    plain-is (answer nothingLeft) h votes else = (refl, refl)
-    plain-is (answer taken) h votes else = (refl, refl)
+    itself : (t : Answer Told) → Plain t → (votes else : List Event) → onVotes t votes else ≡ else
+    itself (refused n) h votes else = refl
+    itself (answer nothingLeft) h votes else = refl
+    itself (answer taken) h votes else = refl
 
     plain : Plain (decide m s .told) → OneInSingles w (reading s)
     plain h =
-        let so = plain-is (decide m s .told) h (votesOf m s) (reading s ∷ []) in
-        let alone = ap apart here ∙ so .0 ∙ ap (λ (t : Answer Told). t ∷ []) (sym here) in
-        record {
-          left = ap (witnessAfter w) (sym (so .1));
-          book = ap (after m) (sym (so .1));
-          tells = alone ∙ ap (toldOf w) (sym (so .1));
-          lines = λ k. sym (append-nil (outcomeLine k (eventCall w (reading s) .told))) ∙ ap (flatMap (outcomeLine k)) (sym alone);
-        }
+        alone w (reading s) (subst Plain (sym here) h) (itself (decide m s .told) h (votesOf m s) (reading s ∷ []))
 
     good : GoodBundle m s → OneInSingles w (reading s)
     good b =
@@ -309,7 +333,7 @@ one-in-singles w typed is-sound (reading s) = ⊎-elim plain good (told-cases m 
         }
 
 pub runs-are-singles : RunsAreSingles
-unfolding witnessAfter after toldOf inSingles flatMap outcomeLines linesApart
+unfolding witnessAfter after toldOf inSingles flatMap outcomeLines linesApart ofReadings
 runs-are-singles w typed is-sound es bytes = go w (sound-true w typed is-sound) es bytes
   where
     go : (w : Witness) → Sound w → (es : List Event) → All OfBytes es → RunInSingles w es
@@ -334,5 +358,5 @@ runs-are-singles w typed is-sound es bytes = go w (sound-true w typed is-sound) 
           told =
               ap₂ _++_ (one .tells) (later .told ∙ ap (toldOf v) next ∙ ap (λ (x : Witness). toldOf x rest) (one .left))
               ∙ sym (told-both w front rest);
-          lines = λ k. ap₂ _++_ (one .lines k) (later .lines (suc k));
+          lines = lines-more e es (eventCall w e .told) (toldOf v es) (one .lines) (later .lines);
         }

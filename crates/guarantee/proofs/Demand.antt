@@ -25,6 +25,7 @@ use Rattle.model.proofs.Finality.{status-exact, root-answer, conflict-exact}
 use Rattle.model.proofs.Paper.{paper-exact}
 use Rattle.model.proofs.Readings.{readings-bound, readings-bytes}
 use Rattle.model.proofs.Standard.{standard-kept}
+use Rattle.moves.proofs.Allowed.{move-exact}
 use Rattle.safety.proofs.Safety.{accountable-safety, no-innocent-named}
 use Rattle.state.specs.Sound.{Sound}
 use Rattle.state.specs.State.{emptyWitness, modelOf, stored}
@@ -72,7 +73,7 @@ step-holds w b h e bytes =
     record {
       model =
           ap (λ (d : Decision). modelOf (stored w d)) (sym same)
-          ∙ event-kept w (h .sound .typed) e bytes .model
+          ∙ event-kept w (h .sound) e bytes .model
           ∙ ap (λ (m : Model). decided m (decideEvent m e)) (h .model);
       sound = subst (λ (d : Decision). Sound (stored w d)) same (event-sound w (h .sound) e bytes);
     }
@@ -122,6 +123,7 @@ module _ (w : Witness) (b : Model) (h : Holds w b) where
     checker-exact = λ l. checker-exact b l;
     conduct-exact = λ id. conduct-exact b id;
     named-exact = our-list-passes b (good w b h);
+    move-exact = move-exact b (good w b h);
     none-innocent = λ l s bytes passes. no-innocent-named b l s bytes (sym (answered w b h (λ m. check m l)) ∙ passes);
   }
 

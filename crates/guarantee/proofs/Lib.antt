@@ -4,3 +4,4 @@ pub mod ManyRuns
 pub mod FedRuns
 pub mod PiecesRuns
 pub mod Bundles
+pub mod Moves

@@ -16,12 +16,13 @@ use Rattle.model.specs.Decide.{bitWithoutMember, noBitSet}
 use Rattle.model.specs.Lists.{All}
 use Rattle.model.specs.Model.{Model}
 use Rattle.model.specs.Report.{refusedLine, outcomeLine, outcomeLines}
-use Rattle.model.specs.Run.{Event, reading, OfBytes, decideEvent, after, outcomes}
+use Rattle.model.specs.Run.{Event, reading, moving, OfBytes, decideEvent, after, outcomes}
 use Rattle.state.specs.Reading.{manyVotes, brief, rowsOfVotes}
 use Rattle.state.specs.Sound.{Typed, sound?}
 use Rattle.state.specs.State.{modelOf}
 use Rattle.state.specs.declared.Witness.{Witness}
 use Rattle.witness.specs.Calls.{eventCall}
+use Rattle.comparison.specs.Compare.{ofReadings}
 use Rattle.guarantee.specs.Demand3.{witnessAfter, toldOf}
 
 -- ---- one bundle
@@ -80,6 +81,7 @@ onVotes (answer (bundled os)) votes else = votes
 
 unfoldable pub singles : Model → Event → List Event
 singles m (reading s) = onVotes (decideEvent m (reading s) .told) (votesOf m s) (reading s ∷ [])
+singles m (moving r) = moving r ∷ []
 
 -- the run with the single votes in the place of each bundle
 unfoldable pub inSingles : Model → List Event → List Event
@@ -106,7 +108,8 @@ pub record RunInSingles (w : Witness) (es : List Event) : Type 0 where
   pub witness : witnessAfter w es ≡ witnessAfter w (inSingles (modelOf w) es)
   pub book : after (modelOf w) es ≡ after (modelOf w) (inSingles (modelOf w) es)
   pub told : flatMap apart (toldOf w es) ≡ toldOf w (inSingles (modelOf w) es)
-  pub lines : (k : ℕ) → outcomeLines k (toldOf w es) ≡ linesApart k (toldOf w es)
+  -- a move of the root is no record, and has no line
+  pub lines : (k : ℕ) → outcomeLines k (ofReadings es (toldOf w es)) ≡ linesApart k (ofReadings es (toldOf w es))
 
 abbrev pub RunsAreSingles : Type 0
 RunsAreSingles =

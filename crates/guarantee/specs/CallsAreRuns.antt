@@ -131,7 +131,7 @@ CallsKeep = (w : Witness) → WitnessKept w
 
 -- ---- after any run
 
--- The witness of a run is one that the calls above take; what they tell of the records `es` that they pass is what the book
+-- The witness of a run is one that the calls above take; what calls tell of the events `es` after it is what the book
 -- tells, and all of Demand 3 holds of what they leave.
 pub record RunOn (name : List ℕ) (before es : List Event) : Type 0 where
   pub typed : Typed (witnessAfter (emptyWitness name) before)

@@ -17,6 +17,7 @@ use Rattle.model.specs.Paper.{paper}
 use Rattle.model.specs.Rule.{Permitted}
 use Rattle.model.specs.declared.Status.the-variants.{Final as FinalStatus}
 use Rattle.model.specs.Support.{supportAt, sum}
+use Rattle.moves.specs.Allowed.{MoveExact}
 use Rattle.safety.specs.Share.{NamesViolators}
 use Rattle.state.specs.Sound.{Typed, sound?}
 use Rattle.state.specs.State.{modelOf}
@@ -59,6 +60,8 @@ pub record ByTheRules (w : Witness) (b : Model) : Type 0 where
   -- what the report says of a member, and its `named`: the sum that the checker gives for our list
   pub conduct-exact : (id : ℕ) → ConductExact b id
   pub named-exact : check b (ourList b) ≡ answer (sum (violator? b) (b .members))
+  -- when the root may be moved up, and what a move leaves (K7)
+  pub move-exact : (r : ℕ) → MoveExact b r
 
 abbrev pub Demand2 : Type 0
 Demand2 = (w : Witness) → Typed w → sound? w ≡ true → ByTheRules w (modelOf w)

@@ -3,3 +3,4 @@ pub mod LogRead
 pub mod Demand2
 pub mod CallsAreRuns
 pub mod Bundles
+pub mod Moves

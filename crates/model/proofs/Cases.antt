@@ -77,7 +77,7 @@ session = after (start (name "R")) (readings (length records) records)
 abbrev pub line : String → List ℕ
 line s = ascii s ++ newline
 
-abbrev node : String → ℕ → ℕ → Checkpoint
+abbrev pub node : String → ℕ → ℕ → Checkpoint
 node s parent height = record { name = name s; parent = parent; height = height }
 
 -- two votes of one member in a chain of checkpoints at places and heights 0 to 3
@@ -85,10 +85,10 @@ abbrev chain : List Checkpoint
 chain = node "R" 0 0 ∷ node "A" 0 1 ∷ node "B" 1 2 ∷ node "C" 2 3 ∷ []
 
 -- states that were handed in, not built by readings
-abbrev held : List Member → List Checkpoint → List Vote → Model
+abbrev pub held : List Member → List Checkpoint → List Vote → Model
 held ms cs vs = record { rule = standard; members = ms; checkpoints = cs; votes = vs }
 
-abbrev firm : ℕ → ℕ → Member
+abbrev pub firm : ℕ → ℕ → Member
 firm id bond = record { id = id; bond = bond }
 
 abbrev along : ℕ → ℕ → Vote
@@ -268,7 +268,8 @@ pub record RowCases : Type 0 where
   row-40-no-root : wellFormed? (held [] [] []) ≡ false
   row-40-no-bond : wellFormed? (held (firm 1 0 ∷ []) chain []) ≡ false
   row-40-bond-above : wellFormed? (held (firm 1 1000000000001 ∷ []) chain []) ≡ false
-  row-40-root-height : wellFormed? (held [] (node "R" 0 1 ∷ []) []) ≡ false
+  row-40-root-highest : wellFormed? (held [] (node "R" 0 4294966784 ∷ node "A" 0 4294966785 ∷ []) []) ≡ true
+  row-40-root-height : wellFormed? (held [] (node "R" 0 4294966785 ∷ []) []) ≡ false
   row-40-parent : wellFormed? (held [] (node "R" 0 0 ∷ node "A" 2 2 ∷ node "B" 0 1 ∷ []) []) ≡ false
   row-40-height : wellFormed? (held [] (node "R" 0 0 ∷ node "A" 0 2 ∷ []) []) ≡ false
   row-40-stranger : wellFormed? (held (firm 2 1 ∷ []) chain (along 0 1 ∷ [])) ≡ false
@@ -442,6 +443,7 @@ cases = (
     row-40-no-root = refl;
     row-40-no-bond = refl;
     row-40-bond-above = refl;
+    row-40-root-highest = refl;
     row-40-root-height = refl;
     row-40-parent = refl;
     row-40-height = refl;

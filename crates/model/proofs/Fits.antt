@@ -1,31 +1,37 @@
--- What is added fits: there is room for it, an id is of 16 bits, and a name has 32 bytes.
+-- What is added fits: there is room for it, an id is of 16 bits, and a name has 32 bytes. A move of the root fits where
+-- no more is held than the limits say.
 use Prim.Native.Nat.{ℕ, _<_, _≤_, _^_}
 use native.Mathlib.Omega.{arith}
 use mathlib.Core.Path.{_≡_, refl, _∙_}
 use mathlib.Core.List.{List, [], _∷_, _++_, flatMap}
 use borrow.Author.Tests.{leb-false}
-use lib.ListN.{length, drop, length-take, length-drop, length-append}
+use lib.ListN.{length, drop, length-take, length-drop, length-append, length-map}
 use Rattle.model.specs.Answer.{Answer, refused}
 use Rattle.model.specs.Bytes.{AreBytes}
-use Rattle.model.specs.Change.{Change, addMember, addCheckpoint, addVote, giveQuota, append, appendAll}
-use Rattle.model.specs.Change.{Decision, single, decided, together, whole}
-use Rattle.model.specs.Decide.{decideVote, decideEach, decideRecord, decide}
+use Rattle.model.specs.Change.{Change, addMember, addCheckpoint, addVote, giveQuota, moveRoot, append}
+use Rattle.model.specs.Change.{appendAll, Decision, single, decided, together, whole}
+use Rattle.model.specs.Decide.{decideVote, decideEach, decideRecord, decide, decideMove}
 use Rattle.model.specs.Limits.{memberLimit, checkpointLimit, voteLimit}
 use Rattle.model.specs.Log.{Record}
-use Rattle.model.specs.Model.{Model}
+use Rattle.model.specs.Model.{Model, voteAt}
+use Rattle.model.specs.Move.{keptVote?, keptVotes, movedVote, moved}
 use Rattle.model.specs.Rule.{Permitted}
+use Rattle.model.specs.Run.{Event, reading, moving, decideEvent, OfBytes}
+use Rattle.model.specs.WellFormed.{WellFormed}
 use Rattle.model.proofs.Bytes.{field-below}
 use Rattle.model.proofs.Lists.{all-of}
 use Rattle.model.proofs.Log.{decode-elim}
+use Rattle.model.proofs.Picked.{rank-le}
 use Rattle.model.proofs.Rule.{quorum-permitted}
-use Rattle.model.proofs.Rows.{memberRows, checkpointRows, voteRows, bundleRows, quorumRows, member-elim}
-use Rattle.model.proofs.Rows.{checkpoint-elim, vote-elim, bundle-elim, quorum-elim}
+use Rattle.model.proofs.Rows.{memberRows, checkpointRows, voteRows, bundleRows, quorumRows, moveRows}
+use Rattle.model.proofs.Rows.{member-elim, checkpoint-elim, vote-elim, bundle-elim, quorum-elim, move-elim}
 
 abbrev pub Fits : Model → Change → Type 0
 Fits m (addMember x) = (length (m .members) < memberLimit) × (x .id < 2 ^ 16)
 Fits m (addCheckpoint c) = (length (m .checkpoints) < checkpointLimit) × (length (c .name) ≡ 32)
 Fits m (addVote v) = length (m .votes) < voteLimit
 Fits m (giveQuota k) = Permitted k
+Fits m (moveRoot r) = (length (m .checkpoints) ≤ checkpointLimit) × (length (m .votes) ≤ voteLimit)
 
 -- each fits what the ones before it left
 pub data FitAll : Model → List Change → Type 0 where
@@ -43,6 +49,16 @@ unfolding appendAll
 fit-both m [] ys no-change fits = fits
 fit-both m (x ∷ xs) ys (one-change fit rest) fits = one-change fit (fit-both (append m x) xs ys rest fits)
 
+-- a move of the root leaves no more votes
+pub fewer-votes : (m : Model) (r : ℕ) → length (moved m r .votes) ≤ length (m .votes)
+unfolding moved
+fewer-votes m r =
+    omega (
+      arith,
+      length-map (keptVotes m r) (λ k. movedVote (m .checkpoints) r (voteAt (m .votes) k)),
+      rank-le (λ k. keptVote? (m .checkpoints) r (voteAt (m .votes) k)) (length (m .votes)),
+    )
+
 -- the votes stay within their limit
 pub fit-votes : (m : Model) (cs : List Change) → FitAll m cs → length (m .votes) ≤ voteLimit → length (appendAll m cs .votes) ≤ voteLimit
 unfolding appendAll append
@@ -50,6 +66,8 @@ fit-votes m [] no-change few = few
 fit-votes m (addMember x ∷ cs) (one-change fit rest) few = fit-votes (append m (addMember x)) cs rest few
 fit-votes m (addCheckpoint c ∷ cs) (one-change fit rest) few = fit-votes (append m (addCheckpoint c)) cs rest few
 fit-votes m (giveQuota k ∷ cs) (one-change fit rest) few = fit-votes (append m (giveQuota k)) cs rest few
+fit-votes m (moveRoot r ∷ cs) (one-change fit rest) few =
+    fit-votes (append m (moveRoot r)) cs rest (omega (arith, fewer-votes m r))
 fit-votes m (addVote v ∷ cs) (one-change fit rest) few =
     fit-votes (append m (addVote v)) cs rest (omega (arith, length-append (m .votes) (v ∷ []), fit))
 
@@ -101,3 +119,10 @@ module _ (m : Model) where
             quorum-elim m (Fit m) _ (all-of (nothing-added m) quorumRows)
             (λ p. one-change (quorum-permitted m _ (p .right)) no-change);
       })
+
+  pub event-fits : WellFormed m → (e : Event) → OfBytes e → FitAll m (decideEvent m e .changes)
+  unfolding decideEvent single
+  event-fits good (reading s) bytes = changes-fit s bytes
+  event-fits good (moving r) bytes =
+      move-elim m (Fit m) r (all-of (nothing-added m) moveRows)
+      (λ p. one-change (good .tree .fit, good .votes-fit) no-change)

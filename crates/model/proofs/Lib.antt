@@ -1,5 +1,6 @@
 pub mod Lists
 pub mod Growth
+pub mod Picked
 pub mod Answer
 pub mod Refusals
 pub mod Buffer

@@ -14,7 +14,8 @@ use Rattle.model.specs.declared.Refusal.the-variants.{VoterNotHeld, Sour
 use Rattle.model.specs.declared.Refusal.the-variants.{VotesFull, UnsoundState, PlaceNotHeld, ListLength, ListMark, ListVersion}
 use Rattle.model.specs.declared.Refusal.the-variants.{IdNotRising, ChargedNotHeld, NotOwnVote, NotEarlier, NoViolation, BufferTooShort}
 use Rattle.model.specs.declared.Refusal.the-variants.{BitWithoutMember, NoBitSet, QuorumFixed, BadQuorum, SourceNotBelowTarget, TargetNotAboveLast}
-use Rattle.model.specs.declared.Refusal.the-variants.{SourceBelowLast}
+use Rattle.model.specs.declared.Refusal.the-variants.{SourceBelowLast, RootNotFinal, EvidenceDropped}
+use Rattle.model.specs.declared.Refusal.the-variants.{HigherVoteDropped}
 
 -- the table's cases in its order
 unfoldable pub refusals : List Refusal
@@ -25,7 +26,7 @@ refusals =
     ∷ VotesFull ∷ UnsoundState ∷ PlaceNotHeld ∷ ListLength ∷ ListMark ∷ ListVersion
     ∷ IdNotRising ∷ ChargedNotHeld ∷ NotOwnVote ∷ NotEarlier ∷ NoViolation ∷ BufferTooShort
     ∷ BitWithoutMember ∷ NoBitSet ∷ QuorumFixed ∷ BadQuorum ∷ SourceNotBelowTarget ∷ TargetNotAboveLast
-    ∷ SourceBelowLast ∷ []
+    ∷ SourceBelowLast ∷ RootNotFinal ∷ EvidenceDropped ∷ HigherVoteDropped ∷ []
 
 -- the refusal with a number; the first of the table where no refusal has it
 unfoldable pub refusalOf : ℕ → Refusal
@@ -70,6 +71,9 @@ refusal-back BadQuorum = refl
 refusal-back SourceNotBelowTarget = refl
 refusal-back TargetNotAboveLast = refl
 refusal-back SourceBelowLast = refl
+refusal-back RootNotFinal = refl
+refusal-back EvidenceDropped = refl
+refusal-back HigherVoteDropped = refl
 
 pub refusal-number-injective : (a b : Refusal) → refusalNumber a ≡ refusalNumber b → a ≡ b
 refusal-number-injective a b e = sym (refusal-back a) ∙ ap refusalOf e ∙ refusal-back b
@@ -113,3 +117,6 @@ refusal-small BadQuorum = (omega arith, omega arith)
 refusal-small SourceNotBelowTarget = (omega arith, omega arith)
 refusal-small TargetNotAboveLast = (omega arith, omega arith)
 refusal-small SourceBelowLast = (omega arith, omega arith)
+refusal-small RootNotFinal = (omega arith, omega arith)
+refusal-small EvidenceDropped = (omega arith, omega arith)
+refusal-small HigherVoteDropped = (omega arith, omega arith)

@@ -9,7 +9,7 @@ use Rattle.model.specs.Decide.{decideRecord, decide}
 use Rattle.model.specs.Log.{Record, noRecord, unknownKind, cutRecord, memberRecord, checkpointRecord, voteRecord}
 use Rattle.model.specs.Log.{bundleRecord, quorumRecord, decode}
 use Rattle.model.specs.Model.{Model}
-use Rattle.model.specs.Run.{Event, reading, decideEvent}
+use Rattle.model.specs.Run.{Event, reading, moving, decideEvent}
 
 abbrev pub Keeps : Decision → Type 0
 Keeps d = (n : ℕ) → d .told ≡ refused n → d .changes ≡ []
@@ -38,3 +38,4 @@ record-keeps m (quorumRecord p q) = single-keeps _
 pub refused-keeps : (m : Model) (e : Event) → Keeps (decideEvent m e)
 unfolding decideEvent decide
 refused-keeps m (reading s) = record-keeps m (decode s)
+refused-keeps m (moving r) = single-keeps _

@@ -7,13 +7,14 @@ use mathlib.Core.Bool.{false, not}
 use lib.ListN.{length}
 use lib.Dec.{leb}
 use Rattle.model.specs.Answer.{Answer, refused, answer, andThen}
-use Rattle.model.specs.Change.{Change, addMember, addCheckpoint, addVote, giveQuota, Decision}
+use Rattle.model.specs.Change.{Change, addMember, addCheckpoint, addVote, giveQuota, moveRoot, Decision}
 use Rattle.model.specs.Decide.{membersFixed, bondOutOfRange, decideMember, newCheckpoint, decideCheckpoint, heightsAgree, newLink, linkBetween, linkOf, cast, voteOf, room, decideVote}
 use Rattle.model.specs.Decide.{decideEach, bundleIds, bitWithoutMember, noBitSet, decideBundle, badQuorum}
-use Rattle.model.specs.Decide.{decideQuorum}
+use Rattle.model.specs.Decide.{decideQuorum, barsRoot, risksEvidence, dropsHigher, decideMove}
 use Rattle.model.specs.Limits.{memberLimit, checkpointLimit, voteLimit}
 use Rattle.model.specs.Lists.{All, none, each}
-use Rattle.model.specs.Model.{Model, Member, Vote, Link, placeOf, idHeld, nameHeld, voteFor, voteHeld}
+use Rattle.model.specs.Model.{Model, Member, Vote, Link, placeOf, idHeld, nameHeld, placeHeld}
+use Rattle.model.specs.Model.{voteFor, voteHeld}
 use Rattle.model.specs.declared.Quota.{Quota}
 use Rattle.model.specs.Tree.{ancestor?}
 use Rattle.model.proofs.Answer.{row-elim}
@@ -32,6 +33,9 @@ bundleRows = 61 ∷ 62 ∷ []
 
 abbrev pub quorumRows : List ℕ
 quorumRows = 63 ∷ 64 ∷ []
+
+abbrev pub moveRows : List ℕ
+moveRows = 41 ∷ 70 ∷ 71 ∷ 72 ∷ []
 
 -- a member's record that passes its rows
 pub record MemberPasses (m : Model) (x : Member) : Type 0 where
@@ -69,6 +73,13 @@ pub record QuorumPasses (m : Model) (k : Quota) : Type 0 where
   pub unfixed : membersFixed m ≡ false
   pub right : badQuorum m k ≡ false
 
+-- a move of the root
+pub record MovePasses (m : Model) (r : ℕ) : Type 0 where
+  pub held : not (placeHeld m r) ≡ false
+  pub final : barsRoot m r ≡ false
+  pub shown : risksEvidence m r ≡ false
+  pub low : dropsHigher m r ≡ false
+
 pub bundle-elim : (m : Model) (P : Answer (List Decision) → Type 0) (bits source target : List ℕ) (sourceHeight targetHeight : ℕ)
     → All (λ n. P (refused n)) bundleRows
     → (BundlePasses m bits → P (answer (decideEach m (bundleIds m bits) source target sourceHeight targetHeight)))
@@ -105,6 +116,16 @@ module _ (m : Model) (P : Answer Change → Type 0) where
       row-elim P 63 _ _ r63 λ unfixed.
       row-elim P 64 _ _ r64 λ right.
       taken (record { unfixed = unfixed; right = right })
+
+  pub move-elim : (r : ℕ) → All (λ n. P (refused n)) moveRows → (MovePasses m r → P (answer (moveRoot r)))
+      → P (decideMove m r)
+  unfolding decideMove
+  move-elim r (each r41 (each r70 (each r71 (each r72 none)))) taken =
+      row-elim P 41 _ _ r41 λ held.
+      row-elim P 70 _ _ r70 λ final.
+      row-elim P 71 _ _ r71 λ shown.
+      row-elim P 72 _ _ r72 λ low.
+      taken (record { held = held; final = final; shown = shown; low = low })
 
   pub vote-elim : (id : ℕ) (source target : List ℕ) (sourceHeight targetHeight : ℕ) → All (λ n. P (refused n)) voteRows
       → (VotePasses m id source target sourceHeight targetHeight → leb voteLimit (length (m .votes)) ≡ false → P (answer (addVote (newVote m id source target))))

@@ -1,9 +1,10 @@
--- What every run keeps: the model stays well formed, whatever is read.
+-- What every reading keeps: the model stays well formed, whatever is read. That a move of the root keeps it, and so
+-- every run, is in crate `moves`.
 use Prim.Native.Nat.{ℕ, zero, suc, _+_, _<_, _≤_, _^_}
 use native.Mathlib.Omega.{arith}
 use mathlib.Core.Path.{_≡_, refl, sym, ap, _∙_, subst}
 use mathlib.Core.List.{List, [], _∷_, _++_, flatMap}
-use mathlib.Core.Bool.{true, false}
+use mathlib.Core.Bool.{Bool, true, false, _||_}
 use borrow.Author.Tests.{eq-eqb, ltb-true, ltb-false, leb-false, lt-ltb, not-false}
 use lib.ListN.{length, getD}
 use lib.Dec.{eqb, ltb}
@@ -13,13 +14,12 @@ use Rattle.model.specs.Change.{Change, addVote, append, appendAll, Decis
 use Rattle.model.specs.Decide.{membersFixed, bondOutOfRange, decideMember, newCheckpoint, decideCheckpoint, decideVote}
 use Rattle.model.specs.Decide.{decideEach, decideQuorum, decideRecord, decide}
 use Rattle.model.specs.Limits.{memberLimit, checkpointLimit, voteLimit, bondLimit}
-use Rattle.model.specs.Lists.{sameBytes, All, none, each}
+use Rattle.model.specs.Lists.{sameBytes}
 use Rattle.model.specs.Log.{Record}
 use Rattle.model.specs.Model.{Model, Member, Checkpoint, Vote, start, idHeld, nameHeld}
 use Rattle.model.specs.Model.{memberAt, checkpointAt, voteAt, heightOf, parentOf, memberIndex, placeOf, sameVote, voteHeld, noMember, noCheckpoint, noVote}
 use Rattle.model.specs.Rule.{quotaOf}
 use Rattle.model.specs.declared.Quota.{Quota}
-use Rattle.model.specs.Run.{Event, reading, decideEvent, after, OfBytes}
 use Rattle.model.specs.Tree.{Child, Ancestor, near, far, ancestor?}
 use Rattle.model.specs.WellFormed.{GoodMembers, GoodTree, GoodVote, WellFormed}
 use Rattle.model.proofs.Bytes.{field-below}
@@ -77,11 +77,11 @@ members-grow ms x good room id16 low high fresh =
 -- ---- one checkpoint more
 
 module _ (cs : List Checkpoint) (c : Checkpoint) where
-  checkpoint-old : (i : ℕ) → i < length cs → checkpointAt (cs ++ c ∷ []) i ≡ checkpointAt cs i
+  pub checkpoint-old : (i : ℕ) → i < length cs → checkpointAt (cs ++ c ∷ []) i ≡ checkpointAt cs i
   unfolding checkpointAt
   checkpoint-old i h = grown-old noCheckpoint cs c i h
 
-  checkpoint-new : checkpointAt (cs ++ c ∷ []) (length cs) ≡ c
+  pub checkpoint-new : checkpointAt (cs ++ c ∷ []) (length cs) ≡ c
   unfolding checkpointAt
   checkpoint-new = grown-new noCheckpoint cs c
 
@@ -109,6 +109,25 @@ module _ (cs : List Checkpoint) (c : Checkpoint) where
         distinct = grown-pairs noCheckpoint cs c (λ y z. y .name ≡ z .name → ⊥) (good .distinct) fresh;
       }
 
+-- ---- while the members are not fixed
+
+module _ (m : Model) (free : membersFixed m ≡ false) where
+  abbrev voted : Bool
+  voted = ltb 0 (length (m .votes))
+
+  abbrev grown : Bool
+  grown = ltb 1 (length (m .checkpoints))
+
+  unfixed-first : (voted || grown) ≡ false
+  unfolding membersFixed
+  unfixed-first = or-false-left (voted || grown) (ltb 0 (heightOf (m .checkpoints) 0)) free
+
+  pub unfixed-votes : length (m .votes) ≤ 0
+  unfixed-votes = ltb-false 0 (length (m .votes)) (or-false-left voted grown unfixed-first)
+
+  pub unfixed-alone : length (m .checkpoints) ≤ 1
+  unfixed-alone = ltb-false 1 (length (m .checkpoints)) (or-false-right voted grown unfixed-first)
+
 -- ---- each kind of record
 
 module _ (m : Model) (good : WellFormed m) where
@@ -116,7 +135,7 @@ module _ (m : Model) (good : WellFormed m) where
   abbrev pub Kept : Answer Change → Type 0
   Kept a = WellFormed (decided m (single a))
 
-  stays : (n : ℕ) → Kept (refused n)
+  pub stays : (n : ℕ) → Kept (refused n)
   unfolding single appendAll
   stays n = good
 
@@ -124,7 +143,7 @@ module _ (m : Model) (good : WellFormed m) where
   unfolding bondOutOfRange membersFixed single appendAll append
   member-kept x id16 =
       member-elim m Kept x (all-of stays memberRows) λ p.
-      let no-vote : length (m .votes) ≤ 0 = ltb-false 0 (length (m .votes)) (or-false-left (ltb 0 (length (m .votes))) (ltb 1 (length (m .checkpoints))) (p .unfixed)) in
+      let no-vote : length (m .votes) ≤ 0 = unfixed-votes m (p .unfixed) in
       let low : 0 < x .bond = positive (x .bond) (or-false-left (eqb (x .bond) 0) (ltb bondLimit (x .bond)) (p .bond)) in
       let high : x .bond ≤ bondLimit = ltb-false bondLimit (x .bond) (or-false-right (eqb (x .bond) 0) (ltb bondLimit (x .bond)) (p .bond)) in
       record {
@@ -235,7 +254,7 @@ module _ (m : Model) (good : WellFormed m) where
         quorum = λ _. quorum-kept m good _;
       })
 
--- ---- every run
+-- ---- where every run starts
 
 pub start-good : (name : List ℕ) → WellFormed (start name)
 unfolding start checkpointAt
@@ -250,16 +269,3 @@ start-good name =
       votes = λ k h. absurd (omega arith);
       distinct = λ i j h l. absurd (omega arith);
     }
-
-pub event-good : (m : Model) → WellFormed m → (e : Event) → OfBytes e → WellFormed (decided m (decideEvent m e))
-unfolding decideEvent
-event-good m good (reading s) h = read-kept m good s h
-
-pub run-good : (m : Model) (es : List Event) → WellFormed m → All OfBytes es → WellFormed (after m es)
-unfolding after
-run-good m [] good none = good
-run-good m (e ∷ es) good (each h hs) = run-good (decided m (decideEvent m e)) es (event-good m good e h) hs
-
--- every run from a root's name
-pub reached-good : (name : List ℕ) (es : List Event) → All OfBytes es → WellFormed (after (start name) es)
-reached-good name es h = run-good (start name) es (start-good name) h

@@ -8,18 +8,19 @@ use lib.Dec.{eqb, ltb}
 use lib.ListN.{length, getD}
 use Rattle.model.specs.Answer.{Answer, refused}
 use Rattle.model.specs.Change.{Change, append, appendAll, Decision, single, decided, together, whole}
-use Rattle.model.specs.Decide.{decideVote, decideEach, decideRecord, decide}
+use Rattle.model.specs.Decide.{decideVote, decideEach, decideRecord, decide, decideMove}
 use Rattle.model.specs.Lists.{All, none, each}
 use Rattle.model.specs.Log.{Record, noRecord, unknownKind, cutRecord, memberRecord, checkpointRecord, voteRecord}
 use Rattle.model.specs.Log.{bundleRecord, quorumRecord, Kind, memberKind, checkpointKind, voteKind, quorumKind}
 use Rattle.model.specs.Log.{bundleKind, otherKind, kindOf, recordSize, decodeAs, decode}
 use Rattle.model.specs.Model.{Model, start}
+use Rattle.model.specs.Move.{moved}
 use Rattle.model.specs.Rule.{standard}
-use Rattle.model.specs.Run.{Event, reading, NoQuorum, decideEvent, after}
+use Rattle.model.specs.Run.{Event, reading, moving, NoQuorum, decideEvent, after}
 use Rattle.model.proofs.Fits.{append-both}
 use Rattle.model.proofs.Lists.{all-of}
-use Rattle.model.proofs.Rows.{memberRows, checkpointRows, voteRows, bundleRows, member-elim, checkpoint-elim}
-use Rattle.model.proofs.Rows.{vote-elim, bundle-elim}
+use Rattle.model.proofs.Rows.{memberRows, checkpointRows, voteRows, bundleRows, moveRows, member-elim}
+use Rattle.model.proofs.Rows.{checkpoint-elim, vote-elim, bundle-elim, move-elim}
 
 -- ---- what is read
 
@@ -114,6 +115,10 @@ module _ (m : Model) where
       bundle-elim m WholeKept bits source target h k (all-of whole-unmoved bundleRows)
       (λ _. each-keeps m _ source target h k)
 
+  move-keeps-rule : (r : ℕ) → decided m (single (decideMove m r)) .rule ≡ m .rule
+  unfolding single append appendAll moved
+  move-keeps-rule r = move-elim m (RuleKept m) r (all-of (unmoved m) moveRows) (λ _. refl)
+
 -- ---- the run
 
 rule-kept : (m : Model) (es : List Event) → All NoQuorum es → after m es .rule ≡ m .rule
@@ -121,6 +126,8 @@ unfolding after decideEvent decide
 rule-kept m [] none = refl
 rule-kept m (reading s ∷ es) (each differs later) =
     rule-kept (decided m (decide m s)) es later ∙ record-keeps-rule m (decode s) (decodes-another s differs)
+rule-kept m (moving r ∷ es) (each differs later) =
+    rule-kept (decided m (single (decideMove m r))) es later ∙ move-keeps-rule m r
 
 pub standard-kept : (name : List ℕ) (es : List Event) → All NoQuorum es → after (start name) es .rule ≡ standard
 unfolding start

@@ -1,8 +1,10 @@
 -- What an event comes to: what is told of it, and the changes that it makes, in order.
+use Prim.Native.Nat.{ℕ}
 use mathlib.Core.List.{List, [], _∷_, _++_, map, flatMap}
 use Rattle.model.specs.Answer.{Answer, refused, answer}
 use Rattle.model.specs.Model.{Model, Member, Checkpoint, Vote, withRule, withMembers, withCheckpoints}
 use Rattle.model.specs.Model.{withVotes}
+use Rattle.model.specs.Move.{moved}
 use Rattle.model.specs.Rule.{given}
 use Rattle.model.specs.declared.Quota.{Quota}
 
@@ -12,13 +14,16 @@ pub data Change : Type 0 where
   addCheckpoint : Checkpoint → Change
   addVote : Vote → Change
   giveQuota : Quota → Change
+  moveRoot : ℕ → Change
 
--- "a member goes to the end of its list; so does a checkpoint ..; so does a vote"; a quota that is given is the rule
+-- "a member goes to the end of its list; so does a checkpoint ..; so does a vote"; a quota that is given is the rule;
+-- a move of the root drops what does not stay
 unfoldable pub append : Model → Change → Model
 append m (addMember x) = withMembers m (m .members ++ x ∷ [])
 append m (addCheckpoint c) = withCheckpoints m (m .checkpoints ++ c ∷ [])
 append m (addVote v) = withVotes m (m .votes ++ v ∷ [])
 append m (giveQuota k) = withRule m (given k)
+append m (moveRoot r) = moved m r
 
 unfoldable pub appendAll : Model → List Change → Model
 appendAll m [] = m

@@ -1,7 +1,8 @@
 -- What is decided on the bytes from an offset on: rows 4 and 5, then those of the record's kind, in rising number; a
--- bundle's own, 61 and 62, come before those of its votes; 63 and 64 are a quorum's. Rows 1 to 3, and what makes a kind
--- unknown or a record cut (4 and 5), are in Log.antt; row 40's condition in WellFormed.antt, 41 in Support.antt and
--- Finality.antt, 50 to 57 in Checker.antt, 60 in Buffer.antt.
+-- bundle's own, 61 and 62, come before those of its votes; 63 and 64 are a quorum's. And what is decided on a move of
+-- the root: rows 41 and 70 to 72. Rows 1 to 3, and what makes a kind unknown or a record cut (4 and 5), are in
+-- Log.antt; row 40's condition in WellFormed.antt, 41 of the other calls in Support.antt and Finality.antt, 50 to 57 in
+-- Checker.antt, 60 in Buffer.antt.
 use Prim.Native.Nat.{ℕ, _+_}
 use mathlib.Core.List.{List, [], _∷_, map}
 use mathlib.Core.Bool.{Bool, _&&_, _||_, not}
@@ -9,21 +10,26 @@ use lib.ListN.{length}
 use lib.Dec.{eqb, ltb, leb}
 use Rattle.model.specs.Answer.{Answer, refused, answer, row, andThen}
 use Rattle.model.specs.Bits.{setPlaces}
-use Rattle.model.specs.Change.{Change, addMember, addCheckpoint, addVote, giveQuota, Decision, single}
-use Rattle.model.specs.Change.{decided, whole, nothingRead}
-use Rattle.model.specs.Limits.{memberLimit, checkpointLimit, voteLimit, bondLimit}
+use Rattle.model.specs.Change.{Change, addMember, addCheckpoint, addVote, giveQuota, moveRoot, Decision}
+use Rattle.model.specs.Change.{single, decided, whole, nothingRead}
+use Rattle.model.specs.Evidence.{Charge, charges}
+use Rattle.model.specs.Finality.{final?, conflicting?}
+use Rattle.model.specs.Limits.{memberLimit, checkpointLimit, voteLimit, bondLimit, rootHeightLimit}
 use Rattle.model.specs.Lists.{any}
 use Rattle.model.specs.Log.{Record, noRecord, unknownKind, cutRecord, memberRecord, checkpointRecord, voteRecord}
 use Rattle.model.specs.Log.{bundleRecord, quorumRecord, decode}
 use Rattle.model.specs.Model.{Model, Member, Checkpoint, Vote, Link, link, memberAt, heightOf, placeOf, idHeld}
-use Rattle.model.specs.Model.{nameHeld, voteFor, voteHeld}
+use Rattle.model.specs.Model.{nameHeld, placeHeld, voteAt, voteFor, voteHeld}
+use Rattle.model.specs.Move.{keptVote?}
 use Rattle.model.specs.Rule.{given?, permitted?}
 use Rattle.model.specs.declared.Quota.{Quota}
 use Rattle.model.specs.Tree.{ancestor?}
 
--- row 10: after an accepted vote, or an accepted checkpoint other than the root
+-- row 10: after an accepted vote, or an accepted checkpoint other than the root; and where the root is above height 0
+-- (K7)
 unfoldable pub membersFixed : Model → Bool
-membersFixed m = ltb 0 (length (m .votes)) || ltb 1 (length (m .checkpoints))
+membersFixed m =
+    ltb 0 (length (m .votes)) || ltb 1 (length (m .checkpoints)) || ltb 0 (heightOf (m .checkpoints) 0)
 
 -- row 11: "bond 0 or above the limit"
 unfoldable pub bondOutOfRange : ℕ → Bool
@@ -142,3 +148,38 @@ decideRecord m (quorumRecord p q) = single (decideQuorum m (record { p = p; q = 
 
 unfoldable pub decide : Model → List ℕ → Decision
 decide m s = decideRecord m (decode s)
+
+-- row 70, on a move of the root to the place r (K7): "r isn't final or is higher than that", the greatest height that
+-- row 40 allows a root
+unfoldable pub barsRoot : Model → ℕ → Bool
+barsRoot m r = not (final? m r) || ltb rootHeightLimit (heightOf (m .checkpoints) r)
+
+-- a charge uses a vote to be dropped
+unfoldable pub usesDropped : Model → ℕ → Charge → Bool
+usesDropped m r c =
+    not (keptVote? (m .checkpoints) r (voteAt (m .votes) (c .earlier)))
+    || not (keptVote? (m .checkpoints) r (voteAt (m .votes) (c .later)))
+
+-- row 71: "two final checkpoints conflict or a charge shown uses a vote to be dropped"
+unfoldable pub risksEvidence : Model → ℕ → Bool
+risksEvidence m r = conflicting? m || any (usesDropped m r) (charges m)
+
+-- the vote is to be dropped, and has a target higher than r
+unfoldable pub droppedHigher : Model → ℕ → Vote → Bool
+droppedHigher m r v =
+    not (keptVote? (m .checkpoints) r v)
+    && ltb (heightOf (m .checkpoints) r) (heightOf (m .checkpoints) (v .target))
+
+-- row 72: "a vote to be dropped has a target higher than r"
+unfoldable pub dropsHigher : Model → ℕ → Bool
+dropsHigher m r = any (droppedHigher m r) (m .votes)
+
+-- a move of the root to the place r: "Checks, after 41, which the book tries here too: 70 ..; 71 ..; 72 ..; in that
+-- order."
+unfoldable pub decideMove : Model → ℕ → Answer Change
+decideMove m r =
+    row 41 (not (placeHeld m r))
+    (row 70 (barsRoot m r)
+    (row 71 (risksEvidence m r)
+    (row 72 (dropsHigher m r)
+    (answer (moveRoot r)))))

@@ -28,7 +28,8 @@ pub record Sealed (m : Model) (p : ℕ) : Type 0 where
   pub linked : Link m p child
 
 -- "Final: justified, with a supermajority link to a direct child." The root is final from the header on, with no link
--- (request K1): for this one checkpoint source document 001 decides, "The genesis is finalized."
+-- (request K1): for this one checkpoint source document 001 decides, "The genesis is finalized." A root that was moved
+-- up (K7) was final before the move (row 70), and stays it.
 pub data Final (m : Model) : ℕ → Type 0 where
   genesis : Final m 0
   sealed : {p : ℕ} → Justified m p → Sealed m p → Final m p

@@ -1,6 +1,7 @@
 // The types of the finality witness, its limits and its refusals. The rules themselves are in specs/.
 
-// A checkpoint's place: checkpoints are counted in the order of acceptance, the root being 0.
+// A checkpoint's place: checkpoints are counted in the order of acceptance, the root being 0; anew after a move of the
+// root.
 #[repr(C)]
 pub struct Place(pub u16);
 
@@ -36,7 +37,7 @@ pub const MAX_BOND: u64 = 1_000_000_000_000;
 
 pub const MAX_PARTS: u16 = 1_000;
 
-pub const MAX_ROOT_HEIGHT: u32 = 0;
+pub const MAX_ROOT_HEIGHT: u32 = 4_294_966_784;
 
 // Why something is refused: a case for each row of document 01's table, in its order, and then of the change requests;
 // specs/Refusals.antt has the numbers.
@@ -78,6 +79,9 @@ pub enum Refusal {
     SourceNotBelowTarget,
     TargetNotAboveLast,
     SourceBelowLast,
+    RootNotFinal,
+    EvidenceDropped,
+    HigherVoteDropped,
 }
 
 // What writing a text into a lent buffer comes to: the text's length, or why nothing was written.

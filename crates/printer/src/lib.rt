@@ -7,7 +7,7 @@ ghost use Prim.Native.Nat.{_≤_};
 ghost use lib.ListN.{length};
 
 // Whether the log was read whole. Where its last record is cut, that is told.
-fn is_whole(log: Log) -> bool {
+pub fn is_whole(log: Log) -> bool {
     let fate = log.fate;
     let Fate::Whole = fate else {
         return false;

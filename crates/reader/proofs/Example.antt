@@ -12,7 +12,7 @@ use Rattle.model.specs.Decide.{membersFixed, bondOutOfRange, decideMember, deci
 use Rattle.model.specs.Decide.{bundleIds, bitWithoutMember, noBitSet, decideBundle}
 use Rattle.model.specs.Lists.{any, firstIndex, tabulate, sameBytes, concatBelow}
 use Rattle.model.specs.Log.{kindOf, sizeOf, decodeAs, recordSize, recordLength, decode}
-use Rattle.model.specs.Model.{memberIndex, idHeld, nameHeld, memberAt, placeOf}
+use Rattle.model.specs.Model.{memberIndex, idHeld, nameHeld, memberAt, checkpointAt, placeOf}
 use Rattle.state.specs.Reading.{manyVotes, brief, rowsOfVotes, padded}
 use Rattle.state.specs.State.{emptyWitness, modelOf, withMember, store, storeAll}
 use Rattle.entries.specs.Entries.{rowsOf, marked, entries, lastRows}
@@ -51,7 +51,8 @@ unfolding
     row field beOf membersFixed bondOutOfRange idHeld decideMember decideRecord decide firstIndex tabulate kindOf sizeOf
     decodeAs recordSize recordLength decode memberIndex single emptyWitness modelOf withMember store storeAll readMany
     andThen bitSet setPlaces oneVote together whole linkOf voteOf decideVote decideEach bundleIds bitWithoutMember
-    noBitSet decideBundle any sameBytes nameHeld memberAt placeOf brief rowOf rowsOf marked flatMap concatBelow appendAll
+    noBitSet decideBundle any sameBytes nameHeld memberAt checkpointAt placeOf brief rowOf rowsOf marked flatMap concatBelow
+    appendAll
 examples =
     record {
       passed = refl;

@@ -44,5 +44,8 @@ pub fn refusal_number(r: Refusal) -> u8
         Refusal::SourceNotBelowTarget => 65,
         Refusal::TargetNotAboveLast => 66,
         Refusal::SourceBelowLast => 67,
+        Refusal::RootNotFinal => 70,
+        Refusal::EvidenceDropped => 71,
+        Refusal::HigherVoteDropped => 72,
     }
 }

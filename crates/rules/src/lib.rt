@@ -76,7 +76,8 @@ pub fn decide_record<'a>(
     if log.len() - at < wire::records::record_size(kind) {
         return Decision::Refuse(Refusal::CutRecord);
     }
-    let fixed = (0 < counts.votes) | (1 < counts.checkpoints);
+    let root = heights[0];
+    let fixed = (0 < counts.votes) | (1 < counts.checkpoints) | (0 < root.0);
     match kind {
         1 => members::decide_member(ids, counts.members, fixed, log, at),
         2 => checkpoints::decide_checkpoint(names, heights, counts.checkpoints, log, at),

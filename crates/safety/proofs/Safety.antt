@@ -22,12 +22,12 @@ use Rattle.model.proofs.Checker.{our-list-passes, checker-exact}
 use Rattle.model.proofs.Conduct.{two-votes, true-violator}
 use Rattle.model.proofs.Finality.{final-justified, final-held}
 use Rattle.model.proofs.Lists.{and-left, and-right, all-map, lt-or-ge}
-use Rattle.model.proofs.Run.{reached-good}
-use Rattle.model.proofs.Support.{Held, supports-held, link-carries, link-climbs}
+use Rattle.moves.proofs.Run.{reached-good}
+use Rattle.model.proofs.Support.{Held, supports-held, sum-mono, link-carries, link-climbs}
 use Rattle.model.proofs.Tree.{child-higher, conflict-swap, root-in-no-conflict}
 use Rattle.safety.specs.Share.{AccountableSafety, NoInnocentNamed}
 use Rattle.safety.proofs.Crossing.{finals-cross}
-use Rattle.safety.proofs.Weight.{carriers-share, third, sum-mono}
+use Rattle.safety.proofs.Weight.{carriers-share, third}
 
 -- two links s1 → t1 and s2 → t2: whoever votes for both breaks a slashing condition
 record CrossingLinks (m : Model) : Type 0 where

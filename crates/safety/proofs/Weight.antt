@@ -2,10 +2,10 @@
 use Prim.Native.Nat.{ℕ, _+_, _*_, _-_, _<_, _≤_, zero-le}
 use native.Mathlib.Nat.{mul-le-mul-left, mul-le-mul-right, mul-add, mul-assoc, mul-comm, mul-sub}
 use native.Mathlib.Omega.{arith}
-use mathlib.Core.Path.{_≡_, refl}
+use mathlib.Core.Path.{_≡_}
 use mathlib.Core.Logic.{⊎-elim}
 use mathlib.Core.List.{List, [], _∷_}
-use mathlib.Core.Bool.{Bool, true, false, cond, _&&_, false≢true}
+use mathlib.Core.Bool.{Bool, true, false, cond, _&&_}
 use Rattle.model.specs.Model.{Model, Member, quota}
 use Rattle.model.specs.Support.{sum, total, carries}
 use Rattle.model.proofs.Lists.{lt-or-ge}
@@ -50,18 +50,6 @@ third p q total named some most share = go (2 * p - q) (omega arith) share
         (λ more. absurd (omega (arith, mul-le-mul-left q more, mul-le-mul-right total h)))
         (λ no-more. no-more)
         (lt-or-ge (3 * named) total)
-
--- a larger set holds no less
-pub sum-mono : {A B : Member → Bool} → ((x : Member) → A x ≡ true → B x ≡ true) → (ms : List Member) → sum A ms ≤ sum B ms
-unfolding sum
-sum-mono h [] = zero-le
-sum-mono {A} {B} h (x ∷ xs) = go (sum-mono h xs) (A x) (B x) (h x)
-  where
-    go : sum A xs ≤ sum B xs → (a b : Bool) → (a ≡ true → b ≡ true) → cond a (x .bond) 0 + sum A xs ≤ cond b (x .bond) 0 + sum B xs
-    go ih true true k = omega arith
-    go ih true false k = absurd (false≢true (k refl))
-    go ih false true k = omega arith
-    go ih false false k = omega arith
 
 -- two sets that carry a checkpoint each, by the quota that is held: the members in both hold 2p - q of q parts
 pub carriers-share : (m : Model) (t u : ℕ) (A B : Member → Bool) → carries m t A ≡ true → carries m u B ≡ true

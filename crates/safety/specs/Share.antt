@@ -24,7 +24,7 @@ pub record ShareNamed (m : Model) : Type 0 where
   -- so by a quorum of 2 of 3 parts, or of more, it "names at least a third of all bonds", which means 3 × sum ≥ total
   pub third : 2 * quota m .q ≤ 3 * quota m .p → total (m .members) ≤ 3 * named
 
--- for every run: any root name, any list of readings of bytes
+-- for every run: any root name, any list of readings of bytes and moves of the root
 abbrev pub AccountableSafety : Type 0
 AccountableSafety = (name : List ℕ) (es : List Event) → All OfBytes es → ConflictingFinals (after (start name) es) → ShareNamed (after (start name) es)
 

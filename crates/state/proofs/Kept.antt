@@ -6,18 +6,20 @@ use mathlib.Core.List.{List, [], _∷_, _++_}
 use lib.ListN.{getD, set, length-set}
 use lib.Seq.{length-paste}
 use Rattle.model.specs.Bytes.{AreBytes}
-use Rattle.model.specs.Change.{Change, addMember, addCheckpoint, addVote, giveQuota, append, appendAll}
+use Rattle.model.specs.Change.{Change, addMember, addCheckpoint, addVote, giveQuota, moveRoot, append}
+use Rattle.model.specs.Change.{appendAll}
 use Rattle.model.specs.Decide.{decide}
 use Rattle.model.specs.Model.{Model}
 use Rattle.model.specs.Run.{Event, reading, OfBytes, decideEvent}
 use Rattle.model.specs.WellFormed.{WellFormed}
-use Rattle.model.proofs.Fits.{Fits, FitAll, one-change, changes-fit}
-use Rattle.model.proofs.Run.{event-good}
+use Rattle.model.proofs.Fits.{Fits, FitAll, one-change, changes-fit, event-fits}
+use Rattle.moves.proofs.Run.{event-good}
 use Rattle.state.specs.declared.Witness.{Witness}
 use Rattle.state.specs.Sound.{Typed, Sound}
 use Rattle.state.specs.State.{modelOf, withMember, withCheckpoint, withVote, withQuota, store, storeAll}
 use Rattle.state.specs.State.{stored}
 use Rattle.state.proofs.Entries.{count-members, count-checkpoints, count-votes}
+use Rattle.state.proofs.Moved.{store-root, root-typed}
 use Rattle.state.proofs.Store.{store-member, store-checkpoint, store-vote, store-quota}
 
 pub record Kept (w : Witness) (cs : List Change) : Type 0 where
@@ -40,6 +42,7 @@ module _ (w : Witness) (typed : Typed w) where
   store-model (addCheckpoint c) (room, long) = store-checkpoint w (typed .tree) c (omega (arith, count-checkpoints w)) long
   store-model (addVote v) room = store-vote w (typed .votes) v (omega (arith, count-votes w))
   store-model (giveQuota k) ok = store-quota w k ok
+  store-model (moveRoot r) (few, few-votes) = store-root w typed r few few-votes
 
   store-typed : (c : Change) → Fits (modelOf w) c → Typed (store w c)
   unfolding store withMember withCheckpoint withVote withQuota
@@ -78,6 +81,7 @@ module _ (w : Witness) (typed : Typed w) where
       }
   store-typed (giveQuota k) ok =
       record { members = typed .members; tree = typed .tree; votes = typed .votes; ids = typed .ids }
+  store-typed (moveRoot r) (few, few-votes) = root-typed w typed r few few-votes
 
 -- and changes that fit one after the other
 pub changes-kept : (w : Witness) → Typed w → (cs : List Change) → FitAll (modelOf w) cs → Kept w cs
@@ -98,14 +102,13 @@ store-both w (x ∷ xs) ys = store-both (store w x) xs ys
 pub reading-kept : (w : Witness) → Typed w → (s : List ℕ) → AreBytes s → Kept w (decide (modelOf w) s .changes)
 reading-kept w typed s bytes = changes-kept w typed _ (changes-fit (modelOf w) s bytes)
 
-pub event-kept : (w : Witness) → Typed w → (e : Event) → OfBytes e → Kept w (decideEvent (modelOf w) e .changes)
-unfolding decideEvent
-event-kept w typed (reading s) bytes = reading-kept w typed s bytes
+pub event-kept : (w : Witness) → Sound w → (e : Event) → OfBytes e → Kept w (decideEvent (modelOf w) e .changes)
+event-kept w sound e bytes = changes-kept w (sound .typed) _ (event-fits (modelOf w) (sound .good) e bytes)
 
 -- and a sound witness stays sound
 pub event-sound : (w : Witness) → Sound w → (e : Event) → OfBytes e → Sound (stored w (decideEvent (modelOf w) e))
 event-sound w sound e bytes =
-    let kept = event-kept w (sound .typed) e bytes in
+    let kept = event-kept w sound e bytes in
     record { typed = kept .typed; good = subst (λ (m : Model). WellFormed m) (sym (kept .model)) (event-good (modelOf w) (sound .good) e bytes) }
 
 pub reading-sound : (w : Witness) → Sound w → (s : List ℕ) → AreBytes s → Sound (stored w (decide (modelOf w) s))

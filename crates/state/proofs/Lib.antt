@@ -4,6 +4,7 @@ pub mod Sound
 pub mod Held
 pub mod Rules
 pub mod Store
+pub mod Moved
 pub mod Kept
 pub mod Stored
 pub mod Header

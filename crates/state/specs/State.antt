@@ -1,15 +1,16 @@
--- The model that a witness holds, and the witness with something more.
+-- The model that a witness holds, and the witness with something more, or with its root moved up.
 use Prim.Native.Nat.{ℕ, _+_, _*_}
-use mathlib.Core.List.{List, [], _∷_}
+use mathlib.Core.List.{List, [], _∷_, _++_, map, flatMap}
 use mathlib.Core.Bool.{cond, _&&_}
 use lib.Dec.{eqb}
-use lib.ListN.{getD, set, replicate}
+use lib.ListN.{length, getD, set, drop, replicate}
 use lib.Seq.{paste}
 use Rattle.model.specs.Bytes.{part}
-use Rattle.model.specs.Change.{Change, addMember, addCheckpoint, addVote, giveQuota, Decision}
+use Rattle.model.specs.Change.{Change, addMember, addCheckpoint, addVote, giveQuota, moveRoot, Decision}
 use Rattle.model.specs.Limits.{memberLimit, checkpointLimit, voteLimit}
 use Rattle.model.specs.Lists.{tabulate}
 use Rattle.model.specs.Model.{Member, Checkpoint, Vote, Model}
+use Rattle.model.specs.Move.{moved}
 use Rattle.model.specs.Rule.{Rule, standard, given}
 use Rattle.model.specs.declared.Quota.{Quota}
 use Rattle.model.specs.declared.Place.{Place}
@@ -143,12 +144,36 @@ withVote w v =
 unfoldable pub withQuota : Witness → Quota → Witness
 withQuota w k = withNumbers w (record { p = k .p; q = k .q })
 
+-- a list at the front of an array; what stands past it is as it was
+abbrev pub front : {A : Type 0} → List A → List A → List A
+front xs array = xs ++ drop (length xs) array
+
+-- a root that was moved up: the checkpoints and votes that stay, in front
+unfoldable pub withRoot : Witness → ℕ → Witness
+withRoot w r =
+    let m = moved (modelOf w) r in
+    witnessOf (memberPart w)
+    (record {
+      names = front (flatMap (λ (c : Checkpoint). c .name) (m .checkpoints)) (w .names);
+      parents = front (map (λ (c : Checkpoint). place (c .parent)) (m .checkpoints)) (w .parents);
+      heights = front (map (λ (c : Checkpoint). height (c .height)) (m .checkpoints)) (w .heights);
+      count = length (m .checkpoints);
+    })
+    (record {
+      voters = front (map (λ (v : Vote). v .voter) (m .votes)) (w .voters);
+      sources = front (map (λ (v : Vote). place (v .source)) (m .votes)) (w .sources);
+      targets = front (map (λ (v : Vote). place (v .target)) (m .votes)) (w .targets);
+      count = length (m .votes);
+    })
+    (w .numbers)
+
 -- a change, stored
 unfoldable pub store : Witness → Change → Witness
 store w (addMember x) = withMember w x
 store w (addCheckpoint c) = withCheckpoint w c
 store w (addVote v) = withVote w v
 store w (giveQuota k) = withQuota w k
+store w (moveRoot r) = withRoot w r
 
 unfoldable pub storeAll : Witness → List Change → Witness
 storeAll w [] = w

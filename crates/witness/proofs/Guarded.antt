@@ -7,10 +7,10 @@ use mathlib.Core.Bool.{Bool, true, false, cond}
 use lib.ListN.{replicate}
 use Rattle.model.specs.Answer.{Answer, refused}
 use Rattle.model.specs.Change.{Decision, single}
-use Rattle.model.specs.Decide.{decide}
+use Rattle.model.specs.Decide.{decide, decideMove}
 use Rattle.model.specs.Log.{recordLength}
 use Rattle.model.specs.Model.{Model}
-use Rattle.model.specs.Run.{Event, reading, decideEvent}
+use Rattle.model.specs.Run.{Event, reading, moving, decideEvent}
 use Rattle.model.specs.declared.Refusal.the-variants.{UnsoundState}
 use Rattle.state.specs.Reading.{brief, rowsOfVotes, padded, IsReading}
 use Rattle.state.specs.Sound.{sound?}
@@ -22,6 +22,8 @@ use Rattle.sound.proofs.Guarded.{held-unsound, held-sound}
 use Rattle.reader.specs.Many.{readMany, lastTold, IsBatch}
 use Rattle.reader.specs.declared.Batch.{Batch}
 use Rattle.reader.specs.declared.End.the-variants.{EndedBy}
+use Rattle.mover.specs.Moved.{IsMoved, refusedMove}
+use Rattle.mover.specs.declared.Moved.{Moved}
 use Rattle.witness.specs.Calls.{decideOn, eventCall}
 use Rattle.witness.specs.Readings.{passed, manyCall}
 
@@ -61,6 +63,21 @@ module _ (w : Witness) (s : List ℕ) (at : ℕ) where
         next = i .next ∙ passed-is e;
         witness = i .witness ∙ ap (stored w) d;
       }
+
+-- a move of the root
+module _ (w : Witness) (p : ℕ) where
+  pub unsound-move : sound? w ≡ false → IsMoved w (eventCall w (moving p)) (refusedMove w UnsoundState)
+  unfolding single storeAll brief
+  unsound-move e =
+      let d = sym (unsound-event w (moving p) e) in
+      record { outcome = ap (λ (x : Decision). brief (x .told)) d; witness = ap (stored w) d }
+
+  pub sound-move : {r : Moved} → sound? w ≡ true → IsMoved w (single (decideMove (modelOf w) p)) r
+      → IsMoved w (eventCall w (moving p)) r
+  unfolding decideEvent
+  sound-move e i =
+      let d = sym (sound-event w (moving p) e) in
+      record { outcome = i .outcome ∙ ap (λ (x : Decision). brief (x .told)) d; witness = i .witness ∙ ap (stored w) d }
 
 -- reading on, by row 40
 module _ (n room : ℕ) (w : Witness) (log : List ℕ) (at : ℕ) where

@@ -1,4 +1,4 @@
--- What the calls that read decide: row 40 before everything else.
+-- What the calls that read, or move the root, decide: row 40 before everything else.
 use Rattle.model.specs.Answer.{Answer, refused, answer}
 use Rattle.model.specs.Change.{Decision, single}
 use Rattle.model.specs.Model.{Model}

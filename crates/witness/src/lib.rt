@@ -1,7 +1,9 @@
-// The public calls of the witness that read a log. None asks anything of its caller: what is handed in is checked.
-// Those that ask what the witness holds are in crate `answers`.
+// The public calls of the witness that read a log, and that move its root up. None asks anything of its caller: what is
+// handed in is checked. Those that ask what the witness holds are in crate `answers`.
 use model::MAX_MEMBERS;
+use model::Place;
 use model::Refusal;
+use mover::Moved;
 use reader::Batch;
 use reader::End;
 use state::Beginning;
@@ -12,9 +14,10 @@ ghost use Prim.Native.Nat.{_+_};
 ghost use lib.ListN.{length, drop};
 ghost use Rattle.model.specs.Bytes.{part};
 ghost use Rattle.model.specs.Log.{header};
-ghost use Rattle.model.specs.Run.{reading};
+ghost use Rattle.model.specs.Run.{reading, moving};
 ghost use Rattle.state.specs.Reading.{IsReading, IsBeginning};
 ghost use Rattle.reader.specs.Many.{IsBatch};
+ghost use Rattle.mover.specs.Moved.{IsMoved};
 ghost use Rattle.witness.specs.Calls.{eventCall};
 ghost use Rattle.witness.specs.Readings.{passed, manyCall};
 
@@ -65,4 +68,16 @@ pub fn read_many(w: Witness, log: &[u8], at: usize, limit: u64, rows: &mut [u8])
         };
     }
     log_reader::read_from(w, log, at, limit, rows)
+}
+
+// Moving the root up to a held place: row 40, then 41, 70, 71 and 72, which leave the state as it was. Else that place
+// is the root, with its height kept; it, its descendants and the votes among these stand in front of the arrays, in
+// order, and what stands past the counts is as it was.
+pub fn move_root(w: Witness, place: Place) -> Moved
+    ensures { λ r. ⌜ IsMoved w (eventCall w (moving (place .0))) r ⌝ }
+{
+    if !sound::is_sound(w) {
+        return mover::refuse(w, Refusal::UnsoundState);
+    }
+    mover::move_root(w, place)
 }

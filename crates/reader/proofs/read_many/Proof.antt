@@ -202,6 +202,7 @@ decide-record-requires c κs =
     record {
       ids-long = ids-long w so;
       names-long = omega (arith, so .typed .tree .names, few-checkpoints w so);
+      rooted = omega (arith, so .good .tree .rooted, count-checkpoints w);
       checkpoints-fit = few-checkpoints w so;
       falling = falling w so;
       low = low-heights w so;

@@ -116,6 +116,15 @@ enum-told-36 c = search needs
 enum-told-37 : tie.Need-enum-told-37
 enum-told-37 c = search needs
 
+enum-told-38 : tie.Need-enum-told-38
+enum-told-38 c = search needs
+
+enum-told-39 : tie.Need-enum-told-39
+enum-told-39 c = search needs
+
+enum-told-40 : tie.Need-enum-told-40
+enum-told-40 c = search needs
+
 returns : tie.Need-returns
 returns c = sym (ap refusalNumber (c .enum-told .given .1))
 
@@ -227,6 +236,15 @@ returns-36 c = sym (ap refusalNumber (c .enum-told36 .given .1))
 returns-37 : tie.Need-returns-37
 returns-37 c = sym (ap refusalNumber (c .enum-told37 .given .1))
 
+returns-38 : tie.Need-returns-38
+returns-38 c = sym (ap refusalNumber (c .enum-told38 .given .1))
+
+returns-39 : tie.Need-returns-39
+returns-39 c = sym (ap refusalNumber (c .enum-told39 .given .1))
+
+returns-40 : tie.Need-returns-40
+returns-40 c = sym (ap refusalNumber (c .enum-told40 .given .1))
+
 pub refusal-number-spec : {M : Type 1} → statement M
 refusal-number-spec =
     tie.close
@@ -268,6 +286,9 @@ refusal-number-spec =
     enum-told-35
     enum-told-36
     enum-told-37
+    enum-told-38
+    enum-told-39
+    enum-told-40
     returns
     returns-2
     returns-3
@@ -304,4 +325,7 @@ refusal-number-spec =
     returns-34
     returns-35
     returns-36
-    returns-37)
+    returns-37
+    returns-38
+    returns-39
+    returns-40)

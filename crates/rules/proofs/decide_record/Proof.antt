@@ -1,6 +1,6 @@
 -- `rules::decide_record` meets its contract: row 5 by the record's size, then the rows of its kind. Assumes nothing.
 use Prim.Native.Nat.{ℕ, _-_, _<_, _≤_}
-use mathlib.Core.Path.{_≡_, refl, sym, ap, ap₂, _∙_}
+use mathlib.Core.Path.{_≡_, refl, sym, ap, _∙_}
 use mathlib.Core.List.{List}
 use mathlib.Core.Bool.{_||_}
 use native.Mathlib.Omega.{arith}
@@ -15,6 +15,7 @@ use Rattle.model.specs.Model.{Model}
 use Rattle.model.specs.declared.Height.{Height}
 use Rattle.model.specs.declared.Place.{Place}
 use Rattle.model.proofs.Log.{none-at, cut-at, whole-at, other-kind}
+use Rattle.tables.specs.Places.{heightAt}
 use Rattle.state.specs.Tables.{Held}
 use Rattle.state.specs.declared.Counts.{Counts}
 use Rattle.registry.specs.Decision.{decisionOf}
@@ -24,11 +25,16 @@ use Rattle.rules.proofs.Bundled.{single-fits}
 use Rattle.rules.proofs.decide_record.Statement.{statement}
 use Rattle.rules.proofs.decide_record.Tie as tie
 
--- row 10's condition, of the counts
+-- row 10's condition, of the counts and the root's height
 members-fixed : {m : Model} {n : Counts} {ids names keys : List ℕ} {parents : List Place} {heights : List Height}
-    → Held m n ids names parents heights keys → membersFixed m ≡ (ltb 0 (n .votes) || ltb 1 (n .checkpoints))
+    → 0 < n .checkpoints
+    → Held m n ids names parents heights keys
+    → membersFixed m ≡ (ltb 0 (n .votes) || ltb 1 (n .checkpoints) || ltb 0 (heightAt heights 0))
 unfolding membersFixed
-members-fixed held = ap₂ (λ (v c : ℕ). ltb 0 v || ltb 1 c) (held .keys-held .count) (held .names-held .count)
+members-fixed rooted held i =
+    ltb 0 (held .keys-held .count i)
+    || ltb 1 (held .names-held .count i)
+    || ltb 0 (held .heights-held .height 0 rooted i)
 
 abbrev lent : tie.After-shared-slice-known6 → tie.Start
 lent c = c .before .before .before .before .before .before
@@ -36,9 +42,9 @@ lent c = c .before .before .before .before .before .before
 abbrev start : tie.Else1 → tie.Start
 start c = lent (c .before)
 
--- the counts that row 10 asks for are read
-abbrev whole : tie.After-struct-known2 → tie.Else2
-whole c = c .before .before
+-- the root and the counts that row 10 asks for are read
+abbrev whole : tie.After-struct-known3 → tie.Else2
+whole c = c .before .before .before .before
 
 abbrev inside : tie.Else2 → tie.Else1
 inside c = c .before .before .before
@@ -55,6 +61,9 @@ kind c = getD (log c) (at c) 0
 -- the record is whole
 fits : (c : tie.Else2) → recordSize (kind c) ≤ length (log c) - at c
 fits c = omega (arith, c .before .record-size .ensures, c .if2 .left)
+
+rooted : (c : tie.Else2) → 0 < start (inside c) .args .counts .checkpoints
+rooted c = start (inside c) .pre .rooted
 
 -- so its kind decides
 by-kind : (c : tie.Else2) (m : Model) {k : Kind} → kindOf (kind c) ≡ k → decideRecord m (decodeAs k (drop (at c) (log c))) ≡ decide m (drop (at c) (log c))
@@ -91,6 +100,9 @@ returns-2 c =
     let a = start e .args in
     let short : length (a .log .now) - a .at < recordSize (getD (a .log .now) (a .at) 0) = omega (arith, c .before .record-size .ensures, c .if2 .taken) in
     λ m rule held. (sym (ap (decideRecord m) (cut-at (a .at) (a .log .now) (e .if1 .left) short .decoded)), tt)
+
+array-copy-out-root : tie.Need-array-copy-out-root
+array-copy-out-root c = search needs
 
 decide-member-requires : tie.Need-decide-member-requires
 unfolding recordSize sizeOf kindOf
@@ -134,7 +146,7 @@ returns-3 c =
     λ m rule held.
     let k = c .before in
     alone (whole (k .before)) m (c .decide-member .result) _ (ap kindOf (k .match .keys1))
-    (c .decide-member .ensures m (members-fixed held) (held .members-held), refl)
+    (c .decide-member .ensures m (members-fixed (rooted (whole (k .before))) held) (held .members-held), refl)
 
 returns-4 : tie.Need-returns-4
 unfolding decideRecord decodeAs kindOf
@@ -158,7 +170,7 @@ returns-6 c =
     λ m rule held.
     let k = c .before in
     alone (whole (k .before)) m (c .decide-quorum .result) _ (ap kindOf (k .match .keys4))
-    (c .decide-quorum .ensures m (members-fixed held) rule, refl)
+    (c .decide-quorum .ensures m (members-fixed (rooted (whole (k .before))) held) rule, refl)
 
 returns-7 : tie.Need-returns-7
 unfolding decideRecord decodeAs kindOf
@@ -193,6 +205,7 @@ decide-record-spec =
     sub-if2
     record-size-requires
     returns-2
+    array-copy-out-root
     decide-member-requires
     decide-checkpoint-requires
     decide-vote-requires

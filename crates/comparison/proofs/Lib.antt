@@ -1,0 +1,10 @@
+pub mod Tied
+pub mod Allowed
+pub mod Standing
+pub mod Pairs
+pub mod Moving
+pub mod Grown
+pub mod Extended
+pub mod Reading
+pub mod Compare
+pub mod Instance

@@ -1,0 +1,2 @@
+-- What a move of the root gives back.
+pub mod Moved

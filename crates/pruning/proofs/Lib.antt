@@ -1,0 +1,4 @@
+pub mod Stays
+pub mod Fronts
+pub mod Parts
+pub mod Rooted
