@@ -67,6 +67,7 @@ decodes_another (b ∷ s) differs = go (kind_of b) (another-kind b differs) (ltb
     go vote_kind other false = tt
     go bundle_kind other false = tt
     go other_kind other false = tt
+    go quorum_kind other false = elim other [ ]
 
 -- ---- what it does to the rule
 
@@ -106,6 +107,7 @@ module _ (m : Model) where
   record_keeps_rule no_record other = refl
   record_keeps_rule unknown_kind other = refl
   record_keeps_rule cut_record other = refl
+  record_keeps_rule (quorum_record p q) other = elim other [ ]
   record_keeps_rule (member_record id bond) other =
       member_elim m (RuleKept m) _ (all_of (unmoved m) member_rows) (λ _. refl)
   record_keeps_rule (checkpoint_record name parent) other =
