@@ -15,19 +15,19 @@ use model::{Place, Refusal, Status, WriteAnswer};
 use state::Witness;
 
 // What the calls answer: a value, or the refusal.
-#[derive(Drop)]
+#[derive(Clone, Copy)]
 pub enum StatusAnswer {
     Is(Status),
     Refused(Refusal),
 }
 
-#[derive(Drop)]
+#[derive(Clone, Copy)]
 pub enum SupportAnswer {
     Is(Backing),
     Refused(Refusal),
 }
 
-#[derive(Drop)]
+#[derive(Clone, Copy)]
 pub enum ConflictAnswer {
     Is(bool),
     Refused(Refusal),

@@ -12,7 +12,7 @@ ghost use Rattle.ballots.specs.Ballot.{link_answer_of, Within};
 use model::{Height, MAX_CHECKPOINTS, Place, Refusal};
 
 // What rows 31 to 34, or the first of them, make of a link: one refuses it; or it is between these places.
-#[derive(Drop)]
+#[derive(Clone, Copy)]
 pub enum LinkAnswer {
     Refused(Refusal),
     Between(Place, Place),

@@ -16,7 +16,7 @@ use model::{Height, MAX_CHECKPOINTS, MAX_VOTES, Place, Refusal};
 use state::Counts;
 
 // What rows 30 to 36, or the first of them, make of a vote: one refuses it; or a member's vote between places.
-#[derive(Drop)]
+#[derive(Clone, Copy)]
 pub enum Ballot {
     Refuse(Refusal),
     Cast(u16, Place, Place),

@@ -6,7 +6,7 @@ ghost use Rattle.buffered.specs.Hold.{whole?, ready?, IsFilled};
 use libc::{STDERR_FILENO, STDOUT_FILENO};
 
 // How many bytes are at hand after a read, whether the file has ended, and whether it could not be read.
-#[derive(Drop)]
+#[derive(Clone, Copy)]
 pub struct Filled {
     pub have: usize,
     pub ended: bool,

@@ -11,7 +11,7 @@ use slashing::breaks;
 use state::Witness;
 
 // What the checker gives: the sum of the bonds named, or the row that refuses the list.
-#[derive(Drop)]
+#[derive(Clone, Copy)]
 pub enum CheckAnswer {
     Sum(u64),
     Refused(Refusal),

@@ -13,7 +13,7 @@ use state::{Outcome, Start, Witness};
 
 // An answer: the number of the refusal and 0, or 0 and the value.
 #[repr(C)]
-#[derive(Drop)]
+#[derive(Clone, Copy)]
 pub struct Answered {
     pub refused: u64,
     pub value: u64,
@@ -21,7 +21,7 @@ pub struct Answered {
 
 // The backing of a link, after the number of the refusal; `quorum` is 1 for yes.
 #[repr(C)]
-#[derive(Drop)]
+#[derive(Clone, Copy)]
 pub struct Backed {
     pub refused: u64,
     pub number: u64,
@@ -106,7 +106,7 @@ pub fn start_number(s: Start) -> u64
 
 // What a record came to: the number of the refusal, 1 where it was taken and is no bundle, and how many votes a bundle
 // has.
-#[derive(Drop)]
+#[derive(Clone, Copy)]
 pub struct Tells {
     pub refused: u64,
     pub taken: u64,

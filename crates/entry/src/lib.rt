@@ -8,14 +8,14 @@ ghost use Rattle.entry.specs.Entry.{VotersHeld, entry_at, FoundIs, HeaderIs};
 use model::Refusal;
 
 // How many entries a list has, or the row that refuses its header.
-#[derive(Drop)]
+#[derive(Clone, Copy)]
 pub enum HeaderAnswer {
     Count(usize),
     Refused(Refusal),
 }
 
 // An entry's member, by its place among the members and by its id, and its two votes; or the row that refuses it.
-#[derive(Drop)]
+#[derive(Clone, Copy)]
 pub enum Found {
     Pair {
         member: usize,

@@ -19,7 +19,7 @@ const RECORD_ROOM: usize = 8192;
 
 // Why a call paused: it wants the next piece; the buffer has no room for the lines of a record, or for the last text;
 // no record number is left; the report has ended; or row 40.
-#[derive(Drop)]
+#[derive(Clone, Copy)]
 pub enum Pause {
     Wants,
     Full,

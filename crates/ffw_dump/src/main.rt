@@ -136,7 +136,7 @@ fn put_line(k: u64, kind: u8, bytes: &[u8], out: &mut [u8], at: usize) -> usize
 
 // What was written of the records at hand: the offset reached, the number of the next record, how many bytes of text,
 // and whether no record may follow.
-#[derive(Drop)]
+#[derive(Clone, Copy)]
 struct Lines {
     next: usize,
     records: u64,
@@ -188,7 +188,7 @@ fn put_lines(input: &[u8], k: u64, out: &mut [u8]) -> Lines
 
 // Where the dump stands: whether it goes on, whether the header was read, whether the file has no more, how many
 // bytes are at hand, and the number of the next record.
-#[derive(Drop)]
+#[derive(Clone, Copy)]
 struct Dump {
     more: bool,
     begun: bool,

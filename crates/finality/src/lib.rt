@@ -18,7 +18,7 @@ use tally::votes;
 use voters::{Bar, Voters};
 
 // The backing of a link: how many members are behind it, the sum of their bonds, and whether that is a quorum.
-#[derive(Drop)]
+#[derive(Clone, Copy)]
 pub struct Backing {
     pub number: u32,
     pub bonds: u64,

@@ -150,7 +150,7 @@ fn source(n: usize) -> usize
 }
 
 // Who votes for a link. Five heavy members are a quorum and four are none without middle ones.
-#[derive(Drop)]
+#[derive(Clone, Copy)]
 enum Crowd {
     FiveHeavy,
     TwoThirds,

@@ -10,7 +10,7 @@ use model::{Height, Refusal};
 // was one: `used` is 0 until a vote is signed, and 1 from then on. It is a number and no bool, and as long as a height,
 // so that any 12 bytes are a record: there is no padding, and whatever is not 0 counts as 1.
 #[repr(C)]
-#[derive(Drop)]
+#[derive(Clone, Copy)]
 pub struct Guard {
     pub source: Height,
     pub target: Height,
@@ -18,14 +18,14 @@ pub struct Guard {
 }
 
 // What a guard answers: the vote may be signed, or why not.
-#[derive(Drop)]
+#[derive(Clone, Copy)]
 pub enum SignAnswer {
     Signed,
     Refused(Refusal),
 }
 
 // The answer, and the record afterwards.
-#[derive(Drop)]
+#[derive(Clone, Copy)]
 pub struct Signing {
     pub answer: SignAnswer,
     pub guard: Guard,

@@ -3,23 +3,23 @@
 // A checkpoint's place: checkpoints are counted in the order of acceptance, the root being 0; anew after a move of the
 // root.
 #[repr(C)]
-#[derive(Drop)]
+#[derive(Clone, Copy)]
 pub struct Place(pub u16);
 
 // A checkpoint's height in the tree: the root's, and one more for each step away from it.
 #[repr(C)]
-#[derive(Drop)]
+#[derive(Clone, Copy)]
 pub struct Height(pub u32);
 
 // What a quorum needs: p of q parts of all bonds.
-#[derive(Drop)]
+#[derive(Clone, Copy)]
 pub struct Quota {
     pub p: u16,
     pub q: u16,
 }
 
 // The standing of a checkpoint. A final checkpoint is justified too.
-#[derive(Drop)]
+#[derive(Clone, Copy)]
 pub enum Status {
     Plain,
     Justified,
@@ -45,7 +45,7 @@ pub const MAX_ROOT_HEIGHT: u32 = 4_294_966_784;
 
 // Why something is refused: a case for each row of document 01's table, in its order, and then of the change requests;
 // specs/Refusals.antt has the numbers.
-#[derive(Drop)]
+#[derive(Clone, Copy)]
 pub enum Refusal {
     LogTooShort,
     LogMark,
@@ -90,7 +90,7 @@ pub enum Refusal {
 }
 
 // What writing a text into a lent buffer comes to: the text's length, or why nothing was written.
-#[derive(Drop)]
+#[derive(Clone, Copy)]
 pub enum WriteAnswer {
     Length(usize),
     Refused(Refusal),

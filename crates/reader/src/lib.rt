@@ -12,7 +12,7 @@ use state::{Counts, Numbers, Outcome, Witness};
 // Why reading on ended: no more records may be passed, since as many were as the limit says, or fewer than 128 bytes
 // are left for their entries (so with a limit of 0, or fewer than 128 bytes lent, none ever is); or by what the next
 // one came to, which cannot be passed (`Nothing` where none is left).
-#[derive(Drop)]
+#[derive(Clone, Copy)]
 pub enum End {
     Spent,
     EndedBy(Outcome),

@@ -10,7 +10,7 @@ pub mod quorums;
 // What is decided on a record: nothing is there; a row refuses it; or what is to be held: a member's id and bond; the
 // place of a checkpoint's parent, and its own height; a vote's member, source and target; a quorum's quota. Of a
 // bundle that is not refused whole: how many votes it has, and what rows 31 to 34 make of their link.
-#[derive(Drop)]
+#[derive(Clone, Copy)]
 pub enum Decision {
     Nothing,
     Refuse(Refusal),

@@ -15,7 +15,7 @@ pub mod quotas;
 // The numbers beside the arrays, in one struct that further numbers can join: p and q of the quorum that a record gave,
 // both 0 where none was given.
 #[repr(C)]
-#[derive(Drop)]
+#[derive(Clone, Copy)]
 pub struct Numbers {
     pub p: u16,
     pub q: u16,
@@ -41,7 +41,7 @@ pub struct Witness {
 }
 
 // How many of each are held.
-#[derive(Drop)]
+#[derive(Clone, Copy)]
 pub struct Counts {
     pub members: usize,
     pub checkpoints: usize,
@@ -50,7 +50,7 @@ pub struct Counts {
 
 // What reading a record comes to; of a bundle that is not refused whole, how many bits were set. What each of these
 // votes came to stands beside it.
-#[derive(Drop)]
+#[derive(Clone, Copy)]
 pub enum Outcome {
     Nothing,
     Taken,
@@ -107,7 +107,7 @@ fn empty(log: &[u8]) -> Witness
 }
 
 // What reading a header comes to.
-#[derive(Drop)]
+#[derive(Clone, Copy)]
 pub enum Start {
     Begun,
     Refused(Refusal),

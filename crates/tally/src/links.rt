@@ -47,7 +47,7 @@ pub fn reaches<'a>(
 }
 
 // Voters, and what their bonds come to.
-#[derive(Drop)]
+#[derive(Clone, Copy)]
 pub struct Weighed {
     pub voters: Voters,
     pub bonds: u64,

@@ -9,7 +9,7 @@ use state::Witness;
 
 // How reading a log stands: it goes on; all of the log was read, and its end is still to be told; the report has
 // ended; or it cannot go on, which was told on standard error.
-#[derive(Drop)]
+#[derive(Clone, Copy)]
 pub enum Fate {
     Open,
     Whole,

@@ -5,7 +5,7 @@ ghost use Rattle.voters.specs.Bits.{among, sum_below, count_below};
 ghost use Rattle.voters.specs.Weights.{Bonds, Fits, weight_of, enough, carried};
 
 // The members behind a link as 128 bits: the member at place i is bit i, in `lo` below 64 and in `hi` from there on.
-#[derive(Drop)]
+#[derive(Clone, Copy)]
 pub struct Voters {
     pub lo: u64,
     pub hi: u64,
@@ -90,7 +90,7 @@ pub fn total_bond(bonds: &[u64], members: usize) -> u64
 }
 
 // What a quorum is measured against: p of q parts of the bonds of all members.
-#[derive(Drop)]
+#[derive(Clone, Copy)]
 pub struct Bar {
     pub p: u64,
     pub q: u64,
