@@ -1,4 +1,6 @@
 // The member bits of a bundle: 16 bytes of a slice, the bit of each member by its place.
+#![tactic(auto)]
+
 ghost use Rattle.std.specs.Prelude.{◌≡◌, ◌+◌, ◌≤◌, ◌<◌, leb, length};
 ghost use Rattle.model.specs.Bits.{bit_set, set_places};
 ghost use Rattle.model.specs.Bytes.{part};

@@ -1,5 +1,7 @@
 // A table of numbers in chains, one for each of 4093 slots: equal numbers are in one chain, so that each is compared
 // with few others.
+#![tactic(auto)]
+
 ghost use Rattle.std.specs.Prelude.{◌≡◌, Bool, ◌&&◌, ℕ, ◌+◌, ◌≤◌, ◌<◌, eqb, length, get_or, set};
 ghost use Rattle.model.specs.Limits.{vote_limit};
 ghost use Rattle.model.specs.Lists.{any_below, pair_below};

@@ -1,4 +1,6 @@
 // The members behind a link, what their bonds come to, and whether that is a quorum.
+#![tactic(auto)]
+
 ghost use Rattle.std.specs.Prelude.{◌≡◌, true, ◌||◌, ℕ, ◌*◌, ◌≤◌, ◌<◌, eqb, get_or};
 ghost use Rattle.model.specs.Limits.{member_limit, bond_limit};
 ghost use Rattle.voters.specs.Bits.{among, sum_below, count_below};
