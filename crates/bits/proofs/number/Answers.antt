@@ -8,6 +8,7 @@ use Rattle.model.specs.Bytes.{part}
 use Rattle.model.specs.Lists.{concat_below}
 use Rattle.bits.proofs.SetPlaces.{set_below, length_more, length-same}
 use Rattle.bits.proofs.number.Goals as goal
+use Rattle.bits.proofs.number.Goals.{then-is_set, else-is_set}
 
 pub loop-p-init : goal.loop-p-init
 unfolding concat_below
@@ -32,11 +33,14 @@ loop-p-preserved c =
     let bits = part a.at 16 a.s.now in
     let set = c.is_set.ensures in (
       omega (arith, c.loop-p-test.true),
-      ⊎_elim (λ t. omega (arith, t.1, l.loop-p.invariant.1)) (λ t. omega (arith, t.1, l.loop-p.invariant.1)) c.if-is_set.branch,
-      ⊎_elim
-          (λ t. t.1 ∙ length_more bits l.loop-p.p l.loop-p.invariant.2 (sym set ∙ t.0.taken))
-          (λ t. t.1 ∙ length-same bits l.loop-p.p l.loop-p.invariant.2 (sym set ∙ t.0.left))
-          c.if-is_set.branch,
+      elim c.if-is_set.branch [
+        | then-is_set w ↦ omega (arith, w.n-is, l.loop-p.invariant.1)
+        | else-is_set w ↦ omega (arith, w.n-is, l.loop-p.invariant.1)
+      ],
+      elim c.if-is_set.branch [
+        | then-is_set w ↦ w.n-is ∙ length_more bits l.loop-p.p l.loop-p.invariant.2 (sym set ∙ w.if-is_set.true)
+        | else-is_set w ↦ w.n-is ∙ length-same bits l.loop-p.p l.loop-p.invariant.2 (sym set ∙ w.if-is_set.false)
+      ],
     )
 
 pub returns : goal.returns

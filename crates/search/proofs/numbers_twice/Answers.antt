@@ -22,7 +22,7 @@ loop-j-init c = (omega arith, pair-none _)
 pub in_chain-hit-requires : goal.in_chain-hit-requires
 in_chain-hit-requires c =
     let turn = c.before.before in
-    let linked = links turn.before.before.before in
+    let linked = links (goal.at.in_chain-hit-requires c).After-link-links in
     let falls = linked-earlier _ linked in
     let here = turn.loop-j-test.true in
     (omega arith, omega (arith, here, linked.long), falls turn.loop-j.j here, λ k h. falls k (omega (arith, h, here)))
@@ -31,7 +31,7 @@ pub loop-j-preserved : goal.loop-j-preserved
 loop-j-preserved c =
     let turn = c.before.before.before in
     let so = turn.loop-j.invariant in
-    let linked = links turn.before.before.before in
+    let linked = links (goal.at.loop-j-preserved c).After-link-links in
     let numbers = turn.args.numbers.now in
     let j = turn.loop-j.j in
     let chain = linked-chain _ linked (slot_of numbers j) j so.0 (linked.nexts j turn.loop-j-test.true) in

@@ -8,6 +8,7 @@ use Rattle.model.specs.Limits.{bond_limit}
 use Rattle.voters.specs.Bits.{among}
 use Rattle.voters.proofs.Bits.{sum_bound, sum-none, sum_with, sum_without}
 use Rattle.voters.proofs.add_bonds.Goals as goal
+use Rattle.voters.proofs.add_bonds.Goals.{then-has, else-has}
 
 pub loop-i-init : goal.loop-i-init
 loop-i-init c = (omega arith, sum-none _ _)
@@ -29,10 +30,10 @@ loop-i-preserved c =
     let is = c.has.ensures in
     let so = c.loop-i.invariant.1 in (
       omega arith,
-      ⊎_elim
-          (λ w. w.2 ∙ sum_with (among a.v) bond (sym is ∙ w.0.taken) so)
-          (λ w. w.1 ∙ sum_without (among a.v) bond (sym is ∙ w.0.left) so)
-          c.if-has.branch,
+      elim c.if-has.branch [
+        | then-has w ↦ w.sum-is ∙ sum_with (among a.v) bond (sym is ∙ w.if-has.true) so
+        | else-has w ↦ w.sum-is ∙ sum_without (among a.v) bond (sym is ∙ w.if-has.false) so
+      ],
     )
 
 pub returns : goal.returns
