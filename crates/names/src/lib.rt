@@ -1,6 +1,8 @@
 // Searches over the flat table of the checkpoints' names, 32 bytes each. A name is compared where it stands, in the
 // table and in the log: none is copied. Others choose the names, and may choose them alike in any of their bytes, so a
 // scan that looks at one word of each goes over to the next word at every name that has that word and is another.
+#![tactic(auto)]
+
 ghost use Rattle.std.specs.Prelude.{◌≡◌, false, ℕ, ◌+◌, ◌*◌, ◌≤◌, ◌<◌, length};
 ghost use Rattle.model.specs.Bytes.{part};
 ghost use Rattle.model.specs.Limits.{checkpoint_limit};

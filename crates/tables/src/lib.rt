@@ -1,5 +1,7 @@
 // Searches over the held tables; that of the names has a crate of its own, `names`. Here a member is found by its id;
 // what the tables hold as a whole is asked in the modules: of the members, of the tree, of the votes.
+#![tactic(auto)]
+
 ghost use Rattle.std.specs.Prelude.{◌≡◌, ◌≤◌, eqb, length, take};
 ghost use Rattle.model.specs.Lists.{first_index};
 
