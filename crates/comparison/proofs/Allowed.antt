@@ -1,13 +1,11 @@
 -- What an allowed move says of breaking pairs and of dropped votes, in the forms that a tie keeps.
 use Prim.Native.Nat.{ℕ}
 use mathlib.Core.Path.{subst}
-use mathlib.Core.Logic.{inl}
-use Rattle.model.specs.Evidence.{Charge}
 use Rattle.model.specs.Exact.{FirstPair, Violation}
 use Rattle.model.specs.Model.{Model, vote_at}
 use Rattle.model.specs.WellFormed.{WellFormed}
 use Rattle.model.proofs.Charges.{all-at, charges-first, violation_charged}
-use Rattle.moves.specs.Allowed.{KeptVote, Allowed}
+use Rattle.moves.specs.Allowed.{Allowed}
 use Rattle.moves.specs.Part.{Kept}
 use Rattle.comparison.proofs.Tied.{Low}
 

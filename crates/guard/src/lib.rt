@@ -1,8 +1,10 @@
 // A guard for a member's own key (change request K6): it remembers the heights of the vote that it signed last, and
 // signs no vote that would break a slashing condition with one that it signed before.
+#![tactic(auto)]
+
 ghost use Rattle.std.specs.Prelude.{◌≡◌};
 ghost use Rattle.model.specs.Answer.{row_of};
-ghost use Rattle.guard.specs.Signing.{fresh_guard, guard_rows, record_after, sign_answer_of, IsSigning};
+ghost use Rattle.guard.specs.Signing.{fresh_guard, guard_rows, sign_answer_of, IsSigning};
 
 use model::{Height, Refusal};
 
@@ -91,29 +93,11 @@ pub fn sign(g: &mut Guard, source: Height, target: Height) -> SignAnswer
 }
 
 // The row that refuses a vote, or 0.
-fn row_of(a: SignAnswer) -> u64
+pub fn row_of(a: SignAnswer) -> u64
     ensures { result ≡ row_of (sign_answer_of a) }
 {
     match a {
         SignAnswer::Signed => 0,
         SignAnswer::Refused(r) => refusals::refusal_number(r) as u64,
     }
-}
-
-// For a caller in Rust or C: a record that has signed nothing.
-#[unsafe(no_mangle)]
-pub extern "C" fn ffw_guard_fresh() -> Guard
-    ensures { result ≡ fresh_guard }
-{
-    fresh()
-}
-
-// For a caller in Rust or C: a vote of these heights. 0 where it may be signed, and the record then has its heights; or
-// the row, and the record is as it was.
-#[unsafe(no_mangle)]
-pub extern "C" fn ffw_guard_sign(g: &mut Guard, source: Height, target: Height) -> u64
-    ensures { (result ≡ row_of (guard_rows g.old source.0 target.0))
-        × (g.new ≡ record_after g.old source.0 target.0) }
-{
-    row_of(sign(g, source, target))
 }

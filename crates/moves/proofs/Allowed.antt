@@ -1,9 +1,8 @@
 -- A move is made exactly when none of its rows stands against it: proof of specs/Allowed.antt.
 use Prim.Native.Nat.{ℕ, ◌<◌, ◌≤◌}
-use native.Mathlib.Omega.{arith}
 use mathlib.Core.Path.{◌≡◌, refl, ap, ap₂}
 use mathlib.Core.List.{List, [], ◌∷◌}
-use mathlib.Core.Bool.{Bool, true, false, ◌&&◌, ◌||◌, not}
+use mathlib.Core.Bool.{Bool, true, false, ◌||◌, not}
 use borrow.Author.Tests.{ltb-true, lt-ltb, ltb-false, le-ltb, not-false, not-true}
 use lib.Dec.{ltb}
 use lib.ListN.{length, get_or}

@@ -15,7 +15,7 @@ use Rattle.model.proofs.Lists.{lt_or_ge, both, and_left, and_right, or_left, or_
 use Rattle.model.proofs.Tree.{ancestor-later, ancestor_true, true_ancestor}
 use Rattle.model.specs.Limits.{root_height_limit}
 use Rattle.model.specs.Lists.{picked}
-use Rattle.model.specs.Move.{kept?, kept_vote?, kept_places, kept_votes, anew, moved, moved_checkpoint, moved_vote}
+use Rattle.model.specs.Move.{kept?, kept_vote?, anew, moved, moved_checkpoint, moved_vote}
 use Rattle.moves.specs.Part.{Kept, Part, shifted, place_before, number_before}
 use Rattle.moves.proofs.Part.{Within, kept_under, part-good}
 use Rattle.model.proofs.Picked.{rank, rank_lt, nth-rank, Nth, nth-is, nth-rises}

@@ -1,13 +1,12 @@
 -- What every run keeps: the model stays well formed, whatever is read and wherever the root is moved.
 use Prim.Native.Nat.{ℕ, ◌≤◌}
 use mathlib.Core.List.{List, [], ◌∷◌}
-use mathlib.Core.Path.{◌≡◌}
-use mathlib.Core.Bool.{false, not}
+use mathlib.Core.Bool.{not}
 use borrow.Author.Tests.{ltb-true, ltb-false, not-false}
 use lib.Dec.{ltb}
 use lib.ListN.{length}
 use Rattle.model.specs.Change.{move_root, append, append_all, single, decided}
-use Rattle.model.specs.Decide.{bars_root, decide_move}
+use Rattle.model.specs.Decide.{bars_root}
 use Rattle.model.specs.Finality.{final?}
 use Rattle.model.specs.Limits.{root_height_limit}
 use Rattle.model.specs.Lists.{All, none, each}

@@ -1,4 +1,6 @@
 // The number of a refusal in document 01's table, or of a change request's.
+#![tactic(auto)]
+
 ghost use Rattle.std.specs.Prelude.{◌≡◌};
 ghost use Rattle.model.specs.Refusals.{refusal_number};
 

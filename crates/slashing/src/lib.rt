@@ -1,4 +1,6 @@
 // The two slashing conditions, by the heights of two distinct votes of one member.
+#![tactic(auto)]
+
 ghost use Rattle.std.specs.Prelude.{◌≡◌};
 ghost use Rattle.model.specs.Slashing.{surround, heights_break};
 
