@@ -2,7 +2,6 @@
 use Prim.Native.Nat.{ℕ}
 use mathlib.Core.Path.{◌≡◌, sym, ap, ◌∙◌}
 use mathlib.Core.Bool.{Bool}
-use borrow.Author.Rules.{rules}
 use borrow.Author.Tests.{le-leb, lt-leb}
 use lib.Dec.{leb}
 use lib.ListN.{length}
@@ -13,8 +12,7 @@ use Rattle.model.specs.Limits.{vote_limit}
 use Rattle.model.specs.Model.{Model, Vote}
 use Rattle.ballots.specs.Ballot.{ballot_of}
 use Rattle.ballots.specs.declared.votes.Ballot.{Ballot}
-use Rattle.ballots.proofs.votes.room.Statement.{statement}
-use Rattle.ballots.proofs.votes.room.Tie as tie
+use Rattle.ballots.proofs.votes.room.Goals as goal
 
 -- row 36 on what the rows before made of the vote
 abbrev later : Model → Ballot → Answer Change
@@ -24,23 +22,14 @@ full_is : (m : Model) {n : ℕ} {b : Bool} → length m.votes ≡ n → (v : Vot
 unfolding room
 full_is m count v e = sym (ap (λ x. row 36 x (answer (add_vote v))) (ap (leb vote_limit) count ∙ e))
 
-enum-known-b : tie.Need-enum-known-b
-enum-known-b c = search rules
-
-enum-known-b-2 : tie.Need-enum-known-b-2
-enum-known-b-2 c = search rules
-
-returns : tie.Need-returns
+pub returns-then-votes-ge-MAX_VOTES : goal.returns-then-votes-ge-MAX_VOTES
 unfolding row and_then
-returns c = λ m count. (full_is m count _ (le-leb _ _ c.if1.true) ∙ sym (ap (later m) c.before.before.b2.given.1))
+returns-then-votes-ge-MAX_VOTES c = λ m count. (full_is m count _ (le-leb _ _ c.if-votes-ge-MAX_VOTES.true) ∙ sym (ap (later m) c.in-Cast.is))
 
-returns-2 : tie.Need-returns-2
+pub returns-in-Refuse : goal.returns-in-Refuse
 unfolding and_then
-returns-2 c = λ m count. (sym (ap (later m) c.before.b.given.1))
+returns-in-Refuse c = λ m count. (sym (ap (later m) c.in-Refuse.is))
 
-returns-3 : tie.Need-returns-3
+pub returns-else-votes-ge-MAX_VOTES : goal.returns-else-votes-ge-MAX_VOTES
 unfolding row and_then
-returns-3 c = λ m count. (full_is m count _ (lt-leb _ _ c.if1.false) ∙ sym (ap (later m) c.before.before.b2.given.1))
-
-pub room-spec : {M : Type 1} → statement M
-room-spec = tie.close (tie.spec enum-known-b enum-known-b-2 returns returns-2 returns-3)
+returns-else-votes-ge-MAX_VOTES c = λ m count. (full_is m count _ (lt-leb _ _ c.if-votes-ge-MAX_VOTES.false) ∙ sym (ap (later m) c.in-Cast.is))

@@ -1,0 +1,61 @@
+-- `ballots::votes::vote_of` meets its contract: row 30 by the search for the member, 31 to 34 by `link_of`, 35 by
+-- `cast`. Assumes nothing.
+use Prim.Native.Nat.{ℕ}
+use mathlib.Core.Path.{◌≡◌, sym, ap, ap₂, ◌∙◌}
+use mathlib.Core.List.{List}
+use mathlib.Core.Bool.{Bool, not}
+use borrow.Author.Tests.{lt-ltb, le-ltb}
+use lib.Dec.{ltb}
+use lib.ListN.{drop}
+use Rattle.model.specs.Answer.{Answer, row, and_then}
+use Rattle.model.specs.Bytes.{field, part}
+use Rattle.model.specs.Decide.{link_of, cast, vote_of}
+use Rattle.model.specs.Model.{Model, Link, id_held}
+use Rattle.state.specs.Tables.{Held}
+use Rattle.state.proofs.Fields.{field_at}
+use Rattle.state.proofs.Held.{held-id}
+use Rattle.ballots.proofs.Linked.{link-read}
+use Rattle.ballots.proofs.votes.vote_of.Goals as goal
+use Rattle.ballots.proofs.votes.vote_of.Goals.{After-find_id, Start}
+
+-- the bytes of the record
+abbrev s : Start → List ℕ
+s c = drop c.args.at c.args.log.now
+
+-- the tables hold the model
+abbrev Holds : Start → Model → Type 0
+Holds c m = let a = c.args in Held m a.counts a.ids.now a.names.now a.parents a.heights a.keys.now
+
+id-is : (c : After-find_id) → field 1 2 (s (goal.at.After-find_id c).Start) ≡ c.be16-id.result
+id-is c = let a = c.args in field_at a.at 1 2 a.log.now ∙ sym c.be16-id.ensures
+
+member-held : (c : After-find_id) {m : Model} → Holds (goal.at.After-find_id c).Start m
+    → id_held m (field 1 2 (s (goal.at.After-find_id c).Start)) ≡ ltb c.find_id.result c.args.counts.members
+member-held c {m} held = ap (id_held m) (id-is (goal.at.After-find_id c).After-find_id) ∙ held-id _ held.members-held c.find_id.ensures
+
+-- row 30, then the link's rows and the member's
+by-member : (m : Model) (id : ℕ) (source target : List ℕ) (h k : ℕ) {b : Bool} → id_held m id ≡ b
+    → vote_of m id source target h k ≡ row 30 (not b) (and_then (link_of m source target h k) (cast m id))
+unfolding vote_of
+by-member m id source target h k e = rw e
+
+pub returns-then-counts-find_id : goal.returns-then-counts-find_id
+unfolding row
+returns-then-counts-find_id c =
+    λ m held.
+    let found = c.before.before in
+    let t = s (goal.at.returns-then-counts-find_id c).Start in
+    sym (by-member m _ (part 3 32 t) (part 35 32 t) _ _ (member-held (goal.at.returns-then-counts-find_id c).After-find_id held ∙ le-ltb _ _ c.if-counts-find_id.true))
+
+pub returns : goal.returns
+unfolding row
+returns c =
+    λ m held.
+    let linked = c.before in
+    let found = (goal.at.returns c).After-find_id in
+    let a = c.args in
+    c.cast.ensures m held.keys_held
+    ∙ ap₂ (λ (l : Answer Link) (id : ℕ). and_then l (cast m id))
+    (linked.link_of-link.ensures m held.names-held held.heights-held held.ancestors_held ∙ link-read m a.at 3 a.log.now)
+    (sym (id-is (goal.at.returns c).After-find_id))
+    ∙ sym (by-member m _ _ _ _ _ (member-held (goal.at.returns c).After-find_id held ∙ lt-ltb _ _ linked.if-counts-find_id.false))
