@@ -11,7 +11,7 @@ use state::{Outcome, Start, Witness};
 // What can be asked of a log: what the last record read came to (of a bundle that is not refused whole, with the row
 // that refused each of its votes, or 0) and how many were read, the standing of a place, the conflict, our list, and a
 // list that someone handed in.
-#[derive(Drop)]
+#[derive(Clone, Copy)]
 pub struct Answers {
     pub last: Outcome,
     pub rows: [u8; MAX_MEMBERS],

@@ -13,7 +13,7 @@ use tally::{links, votes};
 
 // Of the first `places` places: the height, the standing, and how many members, with how much bond, are behind the link
 // that is shown: the one into the place from a justified source with the largest bond.
-#[derive(Drop)]
+#[derive(Clone, Copy)]
 pub struct RowData {
     pub places: usize,
     pub heights: [Height; MAX_CHECKPOINTS],

@@ -31,7 +31,7 @@ pub struct Backed {
 
 // What reading a header came to, and the witness afterwards.
 #[repr(C)]
-#[derive(Drop)]
+#[derive(Clone, Copy)]
 pub struct Begun {
     pub refused: u64,
     pub witness: Witness,
@@ -41,7 +41,7 @@ pub struct Begun {
 // bundle that is not refused whole, how many bits were set, and in the first so many of `rows` the number of the row
 // that refused each of these votes, or 0; how many records were read; the witness afterwards.
 #[repr(C)]
-#[derive(Drop)]
+#[derive(Clone, Copy)]
 pub struct Replay {
     pub header: u64,
     pub refused: u64,
@@ -56,7 +56,7 @@ pub struct Replay {
 // whole, how many bits were set, and in the first so many of `rows` the number of the row that refused each of these
 // votes, or 0; the offset to go on from; the witness afterwards.
 #[repr(C)]
-#[derive(Drop)]
+#[derive(Clone, Copy)]
 pub struct Read {
     pub refused: u64,
     pub taken: u64,
@@ -68,7 +68,7 @@ pub struct Read {
 
 // What a move of the root came to, 0 where it was made and else the number of the refusal, and the witness afterwards.
 #[repr(C)]
-#[derive(Drop)]
+#[derive(Clone, Copy)]
 pub struct Moved {
     pub refused: u64,
     pub witness: Witness,
@@ -78,7 +78,7 @@ pub struct Moved {
 // where no record number is left, and 256 plus the number of the refusal. Then the offset reached, the number of the
 // next record, how many bytes were written, and the witness afterwards.
 #[repr(C)]
-#[derive(Drop)]
+#[derive(Clone, Copy)]
 pub struct Piece {
     pub pause: u64,
     pub next: usize,

@@ -30,7 +30,7 @@ pub enum Pause {
 
 // Why the call paused, the offset that it reached (0 for `close`, which reads nothing), the number of the next record,
 // how many bytes it wrote, and the witness.
-#[derive(Drop)]
+#[derive(Clone, Copy)]
 pub struct Fed {
     pub pause: Pause,
     pub next: usize,

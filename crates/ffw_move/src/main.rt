@@ -83,7 +83,7 @@ fn say(place: u32, outcome: Outcome) -> bool {
 }
 
 // What the moves left, and whether their lines were written.
-#[derive(Drop)]
+#[derive(Clone, Copy)]
 struct Done {
     told: bool,
     witness: Witness,

@@ -15,7 +15,7 @@ use reader::Batch;
 use state::{Reading, Witness};
 
 // The lent log, and the offset reached in it.
-#[derive(Drop)]
+#[derive(Clone, Copy)]
 pub struct LogReader<'a> {
     pub log: &'a [u8],
     pub at: usize,

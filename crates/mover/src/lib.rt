@@ -16,7 +16,7 @@ use pruning::{Kept, kept_by, prune};
 use state::{Outcome, Witness};
 
 // What a move came to, taken or refused, and the witness as it is then: a refusal leaves the one handed in.
-#[derive(Drop)]
+#[derive(Clone, Copy)]
 pub struct Moved {
     pub outcome: Outcome,
     pub witness: Witness,

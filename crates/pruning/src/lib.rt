@@ -11,7 +11,7 @@ use model::{MAX_CHECKPOINTS, NAME_BYTES, Place};
 use state::Witness;
 
 // By place: whether it stays, and how many that stay are below it, which is its place then.
-#[derive(Drop)]
+#[derive(Clone, Copy)]
 pub struct Kept {
     pub stays: [bool; MAX_CHECKPOINTS],
     pub anew: [Place; MAX_CHECKPOINTS],

@@ -20,7 +20,7 @@ pub enum End {
 
 // What reading on comes to: why it ended, what the last record that was passed came to (`Nothing` where none was), the
 // offset to go on from, how many records were passed and how many entries they have, and the witness.
-#[derive(Drop)]
+#[derive(Clone, Copy)]
 pub struct Batch {
     pub end: End,
     pub last: Outcome,

@@ -14,7 +14,7 @@ use state::{Outcome, Start, Witness};
 
 // What reading came to: what the last record read came to (`Nothing` where none was read); where that is a bundle
 // that is not refused whole, the row that refused each of its votes, or 0; how many records were read; and the witness.
-#[derive(Drop)]
+#[derive(Clone, Copy)]
 pub struct Read {
     pub last: Outcome,
     pub rows: [u8; MAX_MEMBERS],
@@ -67,7 +67,7 @@ fn read_rest(w: Witness, log: &[u8], from: usize, limit: u64) -> Read
 
 // What the header came to, and the records after it; where the header is refused, none is read and the witness is the
 // one handed in.
-#[derive(Drop)]
+#[derive(Clone, Copy)]
 pub struct Replayed {
     pub start: Start,
     pub read: Read,

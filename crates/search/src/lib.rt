@@ -11,7 +11,7 @@ use model::MAX_VOTES;
 
 // Numbers in chains: themselves, the last of each slot, and of each the last before it that has its slot. A number
 // stands there by its index plus 1, and 0 ends a chain.
-#[derive(Drop)]
+#[derive(Clone, Copy)]
 pub struct Links {
     pub numbers: [u64; MAX_VOTES],
     pub heads: [u16; 4093],

@@ -13,7 +13,7 @@ use voters::Voters;
 
 // For each place whether it is justified, and whether that would make it final: it is the root, or a link with a quorum
 // leads from it to a direct child.
-#[derive(Drop)]
+#[derive(Clone, Copy)]
 pub struct Analysis {
     pub justified: [bool; MAX_CHECKPOINTS],
     pub finalizing: [bool; MAX_CHECKPOINTS],

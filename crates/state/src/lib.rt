@@ -26,7 +26,7 @@ pub struct Numbers {
 // What is held, in arrays: of each, the first so many entries as its count says; what stands past them means nothing.
 // A name is 32 bytes of `names`, at 32 times its place. Beside the arrays stand the numbers.
 #[repr(C)]
-#[derive(Drop)]
+#[derive(Clone, Copy)]
 pub struct Witness {
     pub ids: [u16; MAX_MEMBERS],
     pub bonds: [u64; MAX_MEMBERS],
@@ -63,7 +63,7 @@ pub enum Outcome {
 // The outcome; for each vote of a bundle, in rising member place, the number of the row that refused it or 0 (0 past
 // them, and where the record is no bundle or is refused whole); the offset to go on from; and the witness as it is
 // then.
-#[derive(Drop)]
+#[derive(Clone, Copy)]
 pub struct Reading {
     pub outcome: Outcome,
     pub rows: [u8; MAX_MEMBERS],
@@ -116,7 +116,7 @@ pub enum Start {
 }
 
 // The outcome, and the witness: the empty one, or the one handed in.
-#[derive(Drop)]
+#[derive(Clone, Copy)]
 pub struct Beginning {
     pub outcome: Start,
     pub witness: Witness,

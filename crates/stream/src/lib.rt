@@ -10,7 +10,7 @@ use turns::{Fate, Turn};
 
 // What is left of a log that was read to its end: the bytes of a record that stays cut, the number of the next
 // record, and the witness.
-#[derive(Drop)]
+#[derive(Clone, Copy)]
 pub struct Log {
     pub fate: Fate,
     pub left: usize,

@@ -47,7 +47,7 @@ pub fn source_places(sources: [Place; MAX_VOTES], count: usize) -> [u16; MAX_VOT
 
 // The votes in chains, one for each target. A vote stands in a chain by its number plus 1, and 0 ends the chain:
 // `head` has the last vote for a target, `next` the last vote before a vote that has its target.
-#[derive(Drop)]
+#[derive(Clone, Copy)]
 pub struct Buckets {
     pub head: [u16; MAX_CHECKPOINTS],
     pub next: [u16; MAX_VOTES],
@@ -73,7 +73,7 @@ pub fn bucket(targets: [Place; MAX_VOTES], count: usize) -> Buckets
 
 // The votes of a witness, ready to be counted: the places of each vote's member and source, the votes in chains, and
 // the bar for a quorum.
-#[derive(Drop)]
+#[derive(Clone, Copy)]
 pub struct Ballots {
     pub who: [u16; MAX_VOTES],
     pub from: [u16; MAX_VOTES],

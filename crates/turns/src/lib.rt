@@ -20,7 +20,7 @@ pub enum Fate {
 // Where reading stands: whether the header was read, whether the file has no more, how many bytes at the front of the
 // input are at hand, the number of the next record, the witness, and how many bytes of the output are to be written
 // out.
-#[derive(Drop)]
+#[derive(Clone, Copy)]
 pub struct Turn {
     pub fate: Fate,
     pub begun: bool,
