@@ -1,5 +1,7 @@
 // What the rows of document 01, and of the change requests, decide on a member, a checkpoint and a quorum. The type by
 // which that is said is the one for every record; what is decided on a record of any kind is in crate `rules`.
+#![tactic(auto)]
+
 use ballots::links::LinkAnswer;
 use model::{Height, Place, Quota, Refusal};
 

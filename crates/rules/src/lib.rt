@@ -1,5 +1,7 @@
 // What the rows of document 01, and of the change requests, decide on a record. What they decide on a member, a
 // checkpoint and a quorum is in crate `registry`, and on a link and one vote for it in crate `ballots`.
+#![tactic(auto)]
+
 ghost use Rattle.std.specs.Prelude.{◌≡◌, ℕ, List, drop};
 ghost use Rattle.model.specs.Decide.{decide};
 ghost use Rattle.model.specs.Model.{Model};
