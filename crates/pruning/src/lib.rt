@@ -1,4 +1,6 @@
 // What a move of the root up keeps, and the state with the rest dropped, compacted in place.
+#![tactic(auto)]
+
 ghost use Rattle.std.specs.Prelude.{◌≡◌, cond, ◌+◌, ◌*◌, ◌<◌, ◌≤◌, eqb, length, drop};
 ghost use Rattle.std.proofs.Math.Seq.{paste};
 ghost use Rattle.model.specs.Limits.{checkpoint_limit};

@@ -1,5 +1,7 @@
 // Row 40: whether a state that was handed in is one that the rules allow. One function for each part of the row; that
 // of the rule for a quorum stands in crate state.
+#![tactic(auto)]
+
 ghost use Rattle.std.specs.Prelude.{◌≡◌, ◌*◌, ◌≤◌, length};
 ghost use Rattle.model.specs.Limits.{checkpoint_limit, vote_limit};
 ghost use Rattle.state.specs.Sound.{Typed, sound?};
