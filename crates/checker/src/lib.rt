@@ -1,4 +1,6 @@
 // The checker of a list of charges against a witness: rows 50 to 57, and the sum of the bonds that the list names.
+#![tactic(auto)]
+
 ghost use Rattle.std.specs.Prelude.{◌≡◌, ◌+◌, ◌*◌, length, drop};
 ghost use Rattle.model.specs.Checker.{entries, check_from, check};
 ghost use Rattle.state.specs.Sound.{Sound};

@@ -1,4 +1,6 @@
 // What was told of a record as bytes, and back: the row that refused it, or each vote of a bundle.
+#![tactic(auto)]
+
 ghost use Rattle.std.specs.Prelude.{◌≡◌, cond, ◌<◌, ◌≤◌, length};
 ghost use Rattle.model.specs.Answer.{row_of};
 ghost use Rattle.model.specs.Limits.{member_limit};

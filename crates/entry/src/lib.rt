@@ -1,4 +1,6 @@
 // A list's header and one of its entries: rows 50 to 56.
+#![tactic(auto)]
+
 ghost use Rattle.std.specs.Prelude.{◌≡◌, ◌+◌, ◌≤◌, length};
 ghost use Rattle.model.specs.Checker.{own_vote?};
 ghost use Rattle.model.specs.Model.{Model};

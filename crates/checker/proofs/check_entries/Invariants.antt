@@ -1,0 +1,25 @@
+-- `checker::check_entries` meets its contract. The loop's invariant: the entries left, from this floor and sum on, come
+-- to what all of them come to; and the sum is at most the largest bond for each id below the floor. Assumes nothing.
+use Prim.Native.Nat.{◌≤◌, ◌-◌, ◌+◌, ◌*◌}
+use mathlib.Core.Path.{◌≡◌}
+use lib.ListN.{drop}
+use Rattle.model.specs.Checker.{entries, check_from}
+use Rattle.model.specs.Limits.{bond_limit}
+use Rattle.state.specs.State.{model_of}
+use Rattle.state.specs.declared.Witness.{Witness}
+use Rattle.checker.proofs.check_entries.Given as goal
+
+-- ---- what is known there
+abbrev pub w : In-loop-i → Witness
+w c = c.args.t1
+
+abbrev pub invariant-loop-i : goal.invariant-loop-i
+invariant-loop-i l =
+    (l.i ≤ l.count)
+    × (l.floor ≤ 65536)
+    × (l.sum ≤ bond_limit * l.floor)
+    × (check_from (model_of l.w) l.floor l.sum (entries (l.count - l.i) (drop (7 + 6 * l.i) l.list))
+    ≡ check_from (model_of l.w) 0 0 (entries l.count (drop 7 l.list)))
+
+abbrev pub decreases-loop-i : goal.decreases-loop-i
+decreases-loop-i l = l.count - l.i
