@@ -9,9 +9,10 @@ use Rattle.entries.proofs.row_of_vote.Goals as goal
 
 pub returns-in-Refuse : goal.returns-in-Refuse
 unfolding row_of
-returns-in-Refuse c =
-    let r = c.b-1.given in
-    (c.refusal_number.ensures ∙ sym (ap (λ (b : Ballot). row_of (change_of b)) r.1), omega (arith, c.refusal_number.ensures, (refusal_small r.0.0).1))
+returns-in-Refuse c = (
+  c.refusal_number.ensures ∙ sym (ap (λ (b : Ballot). row_of (change_of b)) c.in-Refuse.is),
+  omega (arith, c.refusal_number.ensures, (refusal_small c.in-Refuse.r).1),
+)
 
 pub returns-in-Cast : goal.returns-in-Cast
 unfolding row_of
