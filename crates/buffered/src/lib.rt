@@ -14,7 +14,7 @@ use std::rt::Env;
 
 // What the system answers of a descriptor that is not open (EBADF), and what is said of a path that is not UTF-8 text,
 // which std opens none by (EILSEQ).
-const NOT_OPEN: i32 = 9;
+pub const NOT_OPEN: i32 = 9;
 
 const NOT_TEXT: i32 = 84;
 
