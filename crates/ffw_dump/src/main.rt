@@ -298,13 +298,7 @@ fn show(rt: HostRuntime, t: Dump, input: &mut [u8], out: &mut [u8]) -> Dump
 }
 
 // One turn: what is at hand, or a read where that is too little.
-fn step<R: Read>(
-    rt: HostRuntime,
-    from: &mut R,
-    t: Dump,
-    input: &mut [u8],
-    out: &mut [u8],
-) -> Dump
+fn step<R: Read>(rt: HostRuntime, from: &mut R, t: Dump, input: &mut [u8], out: &mut [u8]) -> Dump
     requires { (t.have ≤ length input.old) × (89 ≤ length input.old) × (256 ≤ length out.old) }
     ensures { result.have ≤ length input.new }
 {
