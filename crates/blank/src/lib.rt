@@ -1,4 +1,6 @@
 // A witness to be handed in where none is held yet: reading a header takes any.
+#![tactic(auto)]
+
 use model::{Height, MAX_CHECKPOINTS, MAX_MEMBERS, MAX_VOTES, NAME_BYTES, Place};
 use state::{Numbers, Witness};
 
