@@ -1,9 +1,22 @@
-// The bytes of a log in a buffer: read from a descriptor, looked at, and kept; and text that is written to one. A
-// call that a signal cut off before its first byte is made again. What fails is told on standard error, once.
+// The bytes of a log in a buffer: read from a reader, looked at, and kept; and text that is written to one of the
+// standard streams. A call that a signal cut off before its first byte is made again. What fails is told on standard
+// error, once.
+#![tactic(auto)]
+
 ghost use Rattle.std.specs.Prelude.{◌≡◌, true, ◌-◌, ◌<◌, ◌≤◌, length, take, drop};
 ghost use Rattle.buffered.specs.Hold.{whole?, ready?, IsFilled};
 
-use libc::{STDERR_FILENO, STDOUT_FILENO};
+use std::env::FillError;
+use std::fs::File;
+use std::io::{Cursor, Error, ErrorKind, Read, Result, Write};
+use std::os::fd::AsFd;
+use std::rt::Env;
+
+// What the system answers of a descriptor that is not open (EBADF), and what is said of a path that is not UTF-8 text,
+// which std opens none by (EILSEQ).
+pub const NOT_OPEN: i32 = 9;
+
+const NOT_TEXT: i32 = 84;
 
 // How many bytes are at hand after a read, whether the file has ended, and whether it could not be read.
 #[derive(Clone, Copy)]
@@ -14,27 +27,40 @@ pub struct Filled {
 }
 
 // Whether the call was cut off by a signal before its first byte.
-fn is_interrupted(got: isize) -> bool {
-    (got < 0) & (os::errno() == libc::EINTR)
+fn is_interrupted(why: &Error) -> bool {
+    why.kind() == ErrorKind::Interrupted
 }
 
 // One read into the buffer, behind the bytes at hand. There is room for one byte at least, so that a read of none is
 // the file's end. A read that was interrupted brings nothing: whoever wants more reads again.
-pub fn fill(fd: i32, name: &[u8], input: &mut [u8], have: usize) -> Filled
+pub fn fill<R: Read>(
+    rt: HostRuntime,
+    from: &mut R,
+    name: &[u8],
+    input: &mut [u8],
+    have: usize,
+) -> Filled
     requires { have < length input.old }
     ensures filled { IsFilled have input.old result.have input.new }
     ensures have_value { result.ended ≡ true → result.have ≡ have }
 {
-    let got = libc::read(fd, &mut input[have..]);
-    let failed = (got < 0) & !is_interrupted(got);
-    if failed {
-        os::fail(name);
-    }
-    let bytes = io::count(got, &input[have..]);
-    Filled {
-        have: have + bytes,
-        ended: (bytes == 0) & (got == 0),
-        failed,
+    match from.read(&mut input[have..]) {
+        Ok(bytes) => Filled {
+            have: have + bytes,
+            ended: bytes == 0,
+            failed: false,
+        },
+        Err(why) => {
+            let failed = !is_interrupted(&why);
+            if failed {
+                fail(rt, name, &why);
+            }
+            Filled {
+                have,
+                ended: false,
+                failed,
+            }
+        }
     }
 }
 
@@ -76,49 +102,108 @@ pub fn is_ready(begun: bool, at_end: bool, bytes: &[u8]) -> bool
     37 <= bytes.len()
 }
 
-// Whether the descriptor is open. Asking for the position changes nothing, and fails in this way only where it is
-// not.
-pub fn is_open(fd: i32) -> bool {
-    let at = libc::lseek(fd, 0, libc::SEEK_CUR);
-    (0 <= at) | (os::errno() != libc::EBADF)
+// Whether the descriptor is open. Asking for a second one of the same file changes nothing, and fails in this way only
+// where it is not.
+pub fn is_open<F: AsFd>(of: &F) -> bool {
+    match of.as_fd().try_clone_to_owned() {
+        Ok(_) => true,
+        Err(why) => why.raw_os_error() != Some(NOT_OPEN),
+    }
 }
 
-// Whether all of the bytes were written to the descriptor. A proved loop has to end, and nothing says that signals
-// do: so the calls are counted, down from a number that no run uses up.
-fn write_all(fd: i32, bytes: &[u8]) -> bool {
+// The file of that name, to be read.
+pub fn open_read(rt: HostRuntime, path: &[u8]) -> Result<File> {
+    match std::str::from_utf8(path) {
+        Ok(name) => File::open(&rt, name),
+        Err(_) => Err(Error::from_raw_os_error(NOT_TEXT)),
+    }
+}
+
+// How many arguments there are, the program's name among them. One that is longer than the byte that is asked for is
+// there too.
+pub fn arg_count(rt: HostRuntime) -> usize {
+    let mut first = [0u8; 1];
+    for i in 0..usize::MAX {
+        if let Err(FillError::NotPresent) = rt.arg(i, &mut first) {
+            return i;
+        }
+    }
+    usize::MAX
+}
+
+// Writes all of the bytes. A proved loop has to end, and nothing says that signals do: so the calls are counted, down
+// from a number that no run uses up.
+fn write_all<W: Write>(to: &mut W, bytes: &[u8]) -> Result<()> {
     let mut done: usize = 0;
     let mut calls = u64::MAX;
     while 0 < calls {
         if bytes.len() <= done {
-            return true;
+            return Ok(());
         }
-        let put = libc::write(fd, &bytes[done..]);
-        if (put <= 0) & !is_interrupted(put) {
-            return false;
+        match to.write(&bytes[done..]) {
+            Ok(0) => return Err(Error::from(ErrorKind::WriteZero)),
+            Ok(put) => done += put,
+            Err(why) => {
+                if !is_interrupted(&why) {
+                    return Err(why);
+                }
+            }
         }
-        done += io::count(put, &bytes[done..]);
         calls -= 1;
     }
-    false
+    Err(Error::from(ErrorKind::Interrupted))
 }
 
 // Writes the bytes to standard output; answers whether that was done.
-pub fn print(bytes: &[u8]) -> bool {
-    let is_put = write_all(STDOUT_FILENO, bytes);
-    if !is_put {
-        os::fail(b"standard output");
+pub fn print(rt: HostRuntime, bytes: &[u8]) -> bool {
+    match write_all(&mut rt.stdout(), bytes) {
+        Ok(()) => true,
+        Err(why) => {
+            fail(rt, b"standard output", &why);
+            false
+        }
     }
-    is_put
 }
 
 // The same of a buffer's first n bytes.
-pub fn print_front(buf: &[u8], n: usize) -> bool
+pub fn print_front(rt: HostRuntime, buf: &[u8], n: usize) -> bool
     requires { n ≤ length buf.now }
 {
-    print(&buf[..n])
+    print(rt, &buf[..n])
 }
 
 // Writes a line to standard error. Where that fails too there is no one left to tell.
-pub fn complain(line: &[u8]) {
-    write_all(STDERR_FILENO, line);
+pub fn complain(rt: HostRuntime, line: &[u8]) {
+    let _ = write_all(&mut rt.stderr(), line);
+}
+
+// How many of the first n bytes stand before their last ` (`; all n where there is none.
+fn before_number(text: &[u8], n: usize) -> usize
+    requires { n ≤ length text.now }
+    ensures { result ≤ n }
+{
+    let mut i = n;
+    while 1 < i {
+        i -= 1;
+        if (text[i - 1] == b' ') & (text[i] == b'(') {
+            return i - 1;
+        }
+    }
+    n
+}
+
+// Writes a line to standard error: what failed, a colon, and the system's words for why, without the number that std
+// sets behind them.
+pub fn fail(rt: HostRuntime, what: &[u8], why: &Error) {
+    let mut words = Cursor::new([0u8; 256]);
+    let _ = write!(words, "{why}");
+    let n = words.position() as usize;
+    let text = words.into_inner();
+    if n <= 256 {
+        let end = before_number(&text, n);
+        complain(rt, what);
+        complain(rt, b": ");
+        complain(rt, &text[..end]);
+        complain(rt, b"\n");
+    }
 }

@@ -1,14 +1,21 @@
 // The report of each log that an argument names, under the log's name, as the report program prints it; of a log whose
 // name begins with `paper` the board paper, as ffw_paper prints it. make.py makes the logs; the stored output comes
 // from another implementation.
+#![tactic(auto)]
+
+use std::io::{Error, Read};
+use std::rt::Env;
 use turns::Fate;
 
+// What the system says of an argument that finds no room (ENAMETOOLONG).
+const TOO_LONG: i32 = 36;
+
 // The report of the log in an open file.
-fn write_report(fd: i32) {
-    let log = stream::read_log(fd, true);
+fn write_report<R: Read>(rt: HostRuntime, from: &mut R) {
+    let log = stream::read_log(rt, from, true);
     let fate = log.fate;
     if let Fate::Whole = fate {
-        stream::write_end(log);
+        stream::write_end(rt, log);
     }
 }
 
@@ -25,38 +32,35 @@ fn is_paper(path: &[u8]) -> bool {
 }
 
 // The report of the log in an open file, or its board paper.
-fn write_asked(fd: i32, paper: bool) {
+fn write_asked<R: Read>(rt: HostRuntime, from: &mut R, paper: bool) {
     if paper {
-        printer::print_paper(stream::read_log(fd, false));
+        let log = stream::read_log(rt, from, false);
+        printer::print_paper(rt, log);
         return;
     }
-    write_report(fd);
+    write_report(rt, from);
 }
 
-fn show(path: &[u8]) {
-    buffered::print(path);
-    buffered::print(b"\n");
-    let fd = os::open_read(path);
-    if fd < 0 {
-        os::fail(path);
-        return;
+fn show(rt: HostRuntime, path: &[u8]) {
+    buffered::print(rt, path);
+    buffered::print(rt, b"\n");
+    match buffered::open_read(rt, path) {
+        Ok(mut log) => write_asked(rt, &mut log, is_paper(path)),
+        Err(why) => buffered::fail(rt, path, &why),
     }
-    write_asked(fd, is_paper(path));
-    libc::close(fd);
 }
 
-fn show_argument(i: usize) {
-    let mut path = io::buffer();
-    let length = os::arg(i, &mut path);
-    if os::errno() != 0 {
-        os::fail(b"argument");
+fn show_argument(rt: HostRuntime, i: usize) {
+    let mut path = [0u8; 4096];
+    let Ok(length) = rt.arg(i, &mut path) else {
+        buffered::fail(rt, b"argument", &Error::from_raw_os_error(TOO_LONG));
         return;
-    }
-    show(&path[..length]);
+    };
+    show(rt, &path[..length]);
 }
 
-fn main() {
-    for i in 1..os::arg_count() {
-        show_argument(i);
+fn main(rt: HostRuntime) {
+    for i in 1..buffered::arg_count(rt) {
+        show_argument(rt, i);
     }
 }

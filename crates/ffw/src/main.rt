@@ -1,11 +1,12 @@
 // The report of a log: the log on standard input, the report on standard output.
-use libc::STDIN_FILENO;
+#![tactic(auto)]
+
 use turns::Fate;
 
-fn main() {
-    let log = stream::read_log(STDIN_FILENO, true);
+fn main(rt: HostRuntime) {
+    let log = stream::read_log(rt, &mut rt.stdin(), true);
     let fate = log.fate;
     if let Fate::Whole = fate {
-        stream::write_end(log);
+        stream::write_end(rt, log);
     }
 }

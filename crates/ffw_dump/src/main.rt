@@ -1,10 +1,12 @@
 // The records of a log, one a line, as they stand in it: nothing is judged. The log is on standard input. An unknown
 // kind or a cut record is the last line.
+#![tactic(auto)]
+
 ghost use Rattle.std.specs.Prelude.{◌≡◌, ◌+◌, ◌*◌, ◌<◌, ◌≤◌, true, false, length};
 ghost use Rattle.model.specs.Log.{record_size};
 ghost use Rattle.buffered.specs.Hold.{whole?};
 
-use libc::STDIN_FILENO;
+use std::io::Read;
 
 // A number's last digit in base 16.
 fn digit(n: u8) -> u8 {
@@ -208,13 +210,13 @@ fn put_header(head: &[u8], out: &mut [u8]) -> usize
     text::put(out, end, b"\n")
 }
 
-fn show_header(t: Dump, input: &mut [u8], out: &mut [u8]) -> Dump
+fn show_header(rt: HostRuntime, t: Dump, input: &mut [u8], out: &mut [u8]) -> Dump
     requires { (37 ≤ t.have) × (t.have ≤ length input.old) × (256 ≤ length out.old) }
     ensures { result.have ≤ length input.new }
 {
     let have = t.have;
     let n = put_header(&input[..have], out);
-    let is_put = buffered::print_front(out, n);
+    let is_put = buffered::print_front(rt, out, n);
     let left = buffered::keep(input, 37, have);
     Dump {
         more: is_put,
@@ -225,14 +227,14 @@ fn show_header(t: Dump, input: &mut [u8], out: &mut [u8]) -> Dump
     }
 }
 
-fn show_records(t: Dump, input: &mut [u8], out: &mut [u8]) -> Dump
+fn show_records(rt: HostRuntime, t: Dump, input: &mut [u8], out: &mut [u8]) -> Dump
     requires { t.have ≤ length input.old }
     ensures { result.have ≤ length input.new }
 {
     let have = t.have;
     let lines = put_lines(&input[..have], t.records, out);
     let n = lines.written;
-    let is_put = buffered::print_front(out, n);
+    let is_put = buffered::print_front(rt, out, n);
     let left = buffered::keep(input, lines.next, have);
     Dump {
         more: is_put & !lines.last,
@@ -244,16 +246,16 @@ fn show_records(t: Dump, input: &mut [u8], out: &mut [u8]) -> Dump
 }
 
 // The end of the log: a header or a record that stays cut is told.
-fn show_end(t: Dump, out: &mut [u8]) -> Dump
+fn show_end(rt: HostRuntime, t: Dump, out: &mut [u8]) -> Dump
     requires { 256 ≤ length out.old }
     ensures { result.have ≡ 0 }
 {
     if !t.begun {
-        buffered::print(b"header cut\n");
+        buffered::print(rt, b"header cut\n");
     } else if 0 < t.have {
         let number = text::put_number(out, 0, t.records);
         let end = text::put(out, number, b" cut\n");
-        buffered::print_front(out, end);
+        buffered::print_front(rt, out, end);
     }
     Dump {
         more: false,
@@ -265,11 +267,11 @@ fn show_end(t: Dump, out: &mut [u8]) -> Dump
 }
 
 // One read.
-fn refill(t: Dump, input: &mut [u8]) -> Dump
+fn refill<R: Read>(rt: HostRuntime, from: &mut R, t: Dump, input: &mut [u8]) -> Dump
     requires { t.have < length input.old }
     ensures { result.have ≤ length input.new }
 {
-    let filled = buffered::fill(STDIN_FILENO, b"log", input, t.have);
+    let filled = buffered::fill(rt, from, b"log", input, t.have);
     Dump {
         more: !filled.failed,
         begun: t.begun,
@@ -280,35 +282,35 @@ fn refill(t: Dump, input: &mut [u8]) -> Dump
 }
 
 // What is at hand: the header, the whole records, or the log's end.
-fn show(t: Dump, input: &mut [u8], out: &mut [u8]) -> Dump
+fn show(rt: HostRuntime, t: Dump, input: &mut [u8], out: &mut [u8]) -> Dump
     requires { (t.have ≤ length input.old) × (256 ≤ length out.old) }
     ensures { result.have ≤ length input.new }
 {
     let have = t.have;
     if t.begun {
         if buffered::is_whole(&input[..have]) {
-            return show_records(t, input, out);
+            return show_records(rt, t, input, out);
         }
     } else if 37 <= have {
-        return show_header(t, input, out);
+        return show_header(rt, t, input, out);
     }
-    show_end(t, out)
+    show_end(rt, t, out)
 }
 
 // One turn: what is at hand, or a read where that is too little.
-fn step(t: Dump, input: &mut [u8], out: &mut [u8]) -> Dump
+fn step<R: Read>(rt: HostRuntime, from: &mut R, t: Dump, input: &mut [u8], out: &mut [u8]) -> Dump
     requires { (t.have ≤ length input.old) × (89 ≤ length input.old) × (256 ≤ length out.old) }
     ensures { result.have ≤ length input.new }
 {
     let have = t.have;
     if buffered::is_ready(t.begun, t.at_end, &input[..have]) {
-        return show(t, input, out);
+        return show(rt, t, input, out);
     }
-    refill(t, input)
+    refill(rt, from, t, input)
 }
 
 // A proved loop has to end, and nothing says that a file does: so it counts down from a number that no run uses up.
-fn dump_log(input: &mut [u8], out: &mut [u8])
+fn dump_log<R: Read>(rt: HostRuntime, from: &mut R, input: &mut [u8], out: &mut [u8])
     requires { (89 ≤ length input.old) × (256 ≤ length out.old) }
 {
     let mut t = Dump {
@@ -323,13 +325,13 @@ fn dump_log(input: &mut [u8], out: &mut [u8])
         if !t.more {
             return;
         }
-        t = step(t, input, out);
+        t = step(rt, from, t, input, out);
         turns -= 1;
     }
 }
 
-fn main() {
-    let mut input = io::large_buffer();
-    let mut out = io::large_buffer();
-    dump_log(&mut input, &mut out);
+fn main(rt: HostRuntime) {
+    let mut input = [0u8; 65536];
+    let mut out = [0u8; 65536];
+    dump_log(rt, &mut rt.stdin(), &mut input, &mut out);
 }

@@ -1,7 +1,8 @@
 // Our list of charges for a log: the log on standard input, the list's bytes on standard output. Of a log that is
 // stopped it says what the report says of the stop.
-use libc::STDIN_FILENO;
+#![tactic(auto)]
 
-fn main() {
-    printer::print_list(stream::read_log(STDIN_FILENO, false));
+fn main(rt: HostRuntime) {
+    let log = stream::read_log(rt, &mut rt.stdin(), false);
+    printer::print_list(rt, log);
 }

@@ -1,7 +1,8 @@
 // The board paper of a log: the log on standard input, the paper on standard output. Of a log that is stopped it says
 // what the report says of the stop.
-use libc::STDIN_FILENO;
+#![tactic(auto)]
 
-fn main() {
-    printer::print_paper(stream::read_log(STDIN_FILENO, false));
+fn main(rt: HostRuntime) {
+    let log = stream::read_log(rt, &mut rt.stdin(), false);
+    printer::print_paper(rt, log);
 }

@@ -1,11 +1,12 @@
 // A witness filled to its limits: a log made by a formula, with 128 members, 512 checkpoints, 4,096 votes and one more
 // of each, is read whole and asked. The formula gives the byte at each offset. The file `stdout` is what expected.py
 // prints, which makes the same log by the same formula and answers by code of its own.
+#![tactic(auto)]
+
 ghost use Rattle.std.specs.Prelude.{◌≡◌, ◌+◌, ◌≤◌, ◌<◌, length};
 
 use answers::{ConflictAnswer, StatusAnswer, SupportAnswer};
 use checker::CheckAnswer;
-use libc::STDOUT_FILENO;
 use model::{Place, Refusal, Status, WriteAnswer};
 use state::{Outcome, Witness};
 
@@ -414,125 +415,130 @@ fn number(r: Refusal) -> u64 {
     }
 }
 
-fn say(word: &[u8], n: u64) {
-    io::write_all(STDOUT_FILENO, word);
-    io::print_decimal(STDOUT_FILENO, n);
+// Some bytes to standard output. Where they cannot be written, the stored output is not met.
+fn say_word(rt: HostRuntime, word: &[u8]) {
+    let _ = rt.write_all(word);
 }
 
-fn end_line() {
-    io::write_all(STDOUT_FILENO, b"\n");
+fn say(rt: HostRuntime, word: &[u8], n: u64) {
+    say_word(rt, word);
+    let _ = rt.print(n);
 }
 
-fn say_refused(r: Refusal) {
-    say(b"refused ", number(r));
-    end_line();
+fn end_line(rt: HostRuntime) {
+    say_word(rt, b"\n");
 }
 
-fn say_counts(w: Witness) {
-    say(b"members ", w.member_count as u64);
-    say(b" checkpoints ", w.checkpoint_count as u64);
-    say(b" votes ", w.vote_count as u64);
-    end_line();
+fn say_refused(rt: HostRuntime, r: Refusal) {
+    say(rt, b"refused ", number(r));
+    end_line(rt);
+}
+
+fn say_counts(rt: HostRuntime, w: Witness) {
+    say(rt, b"members ", w.member_count as u64);
+    say(rt, b" checkpoints ", w.checkpoint_count as u64);
+    say(rt, b" votes ", w.vote_count as u64);
+    end_line(rt);
 }
 
 // What the record at an offset comes to.
-fn say_reading(w: Witness, log: &[u8], at: usize) {
-    say(b"at ", at as u64);
-    io::write_all(STDOUT_FILENO, b": ");
+fn say_reading(rt: HostRuntime, w: Witness, log: &[u8], at: usize) {
+    say(rt, b"at ", at as u64);
+    say_word(rt, b": ");
     let r = witness::read(w, log, at);
     let outcome = r.outcome;
     match outcome {
         Outcome::Nothing => {
-            io::write_all(STDOUT_FILENO, b"nothing left\n");
+            say_word(rt, b"nothing left\n");
         }
         Outcome::Taken => {
-            io::write_all(STDOUT_FILENO, b"taken\n");
+            say_word(rt, b"taken\n");
         }
         Outcome::Bundled(n) => {
-            say(b"bundle of ", n as u64);
-            end_line();
+            say(rt, b"bundle of ", n as u64);
+            end_line(rt);
         }
-        Outcome::Refused(refusal) => say_refused(refusal),
+        Outcome::Refused(refusal) => say_refused(rt, refusal),
     }
 }
 
-fn say_status(w: Witness, p: u16) {
+fn say_status(rt: HostRuntime, w: Witness, p: u16) {
     match answers::status(w, Place(p)) {
         StatusAnswer::Is(s) => match s {
             Status::Plain => {
-                io::write_all(STDOUT_FILENO, b"p");
+                say_word(rt, b"p");
             }
             Status::Justified => {
-                io::write_all(STDOUT_FILENO, b"j");
+                say_word(rt, b"j");
             }
             Status::Final => {
-                io::write_all(STDOUT_FILENO, b"f");
+                say_word(rt, b"f");
             }
         },
-        StatusAnswer::Refused(r) => say_refused(r),
+        StatusAnswer::Refused(r) => say_refused(rt, r),
     }
 }
 
 // A letter for each place, 64 to a line.
-fn say_statuses(w: Witness) {
+fn say_statuses(rt: HostRuntime, w: Witness) {
     let mut p: u16 = 0;
     while p < 512 {
-        say_status(w, p);
+        say_status(rt, w, p);
         if p % 64 == 63 {
-            end_line();
+            end_line(rt);
         }
         p += 1;
     }
 }
 
-fn say_support(w: Witness, s: u16, t: u16) {
-    say(b"", s as u64);
-    say(b" ", t as u64);
-    io::write_all(STDOUT_FILENO, b": ");
+fn say_support(rt: HostRuntime, w: Witness, s: u16, t: u16) {
+    say(rt, b"", s as u64);
+    say(rt, b" ", t as u64);
+    say_word(rt, b": ");
     match answers::support(w, Place(s), Place(t)) {
         SupportAnswer::Is(b) => {
-            say(b"", b.number as u64);
-            say(b" ", b.bonds);
+            say(rt, b"", b.number as u64);
+            say(rt, b" ", b.bonds);
             if b.quorum {
-                io::write_all(STDOUT_FILENO, b" yes\n");
+                say_word(rt, b" yes\n");
             } else {
-                io::write_all(STDOUT_FILENO, b" no\n");
+                say_word(rt, b" no\n");
             }
         }
-        SupportAnswer::Refused(r) => say_refused(r),
+        SupportAnswer::Refused(r) => say_refused(rt, r),
     }
 }
 
 // The support of every fifth link, counted round, of 128.
-fn say_links(w: Witness) {
+fn say_links(rt: HostRuntime, w: Witness) {
     let mut j: usize = 0;
     while j < 128 {
         let n = j * 5 % 512;
-        say_support(w, source(n) as u16, target(n) as u16);
+        say_support(rt, w, source(n) as u16, target(n) as u16);
         j += 1;
     }
 }
 
 // The support of links from the root, and of pairs of places that are no link.
-fn say_pairs(w: Witness) {
+fn say_pairs(rt: HostRuntime, w: Witness) {
     let mut j: u16 = 0;
     while j < 24 {
-        say_support(w, 0, j * 21 + 1);
-        say_support(w, j * 67 % 512, (j * 131 + 3) % 512);
+        say_support(rt, w, 0, j * 21 + 1);
+        say_support(rt, w, j * 67 % 512, (j * 131 + 3) % 512);
         j += 1;
     }
 }
 
-fn say_conflict(w: Witness) {
+fn say_conflict(rt: HostRuntime, w: Witness) {
     match answers::conflict(w) {
         ConflictAnswer::Is(b) => {
             if b {
-                io::write_all(STDOUT_FILENO, b"conflict yes\n");
+                say_word(rt, b"conflict yes\n");
             } else {
-                io::write_all(STDOUT_FILENO, b"conflict no\n");
+                say_word(rt, b"conflict no\n");
             }
         }
-        ConflictAnswer::Refused(r) => say_refused(r),
+        ConflictAnswer::Refused(r) => say_refused(rt, r),
     }
 }
 
@@ -550,42 +556,42 @@ fn pair(s: &[u8], at: usize) -> u64
 }
 
 // The entries of a list: id, earlier vote, later vote.
-fn say_entries(list: &[u8]) {
+fn say_entries(rt: HostRuntime, list: &[u8]) {
     let mut at: usize = 7;
     while at < list.len() {
         if list.len() - at < 6 {
             return;
         }
-        say(b"charged ", pair(list, at));
-        say(b" ", pair(list, at + 2));
-        say(b" ", pair(list, at + 4));
-        end_line();
+        say(rt, b"charged ", pair(list, at));
+        say(rt, b" ", pair(list, at + 2));
+        say(rt, b" ", pair(list, at + 4));
+        end_line(rt);
         at += 6;
     }
 }
 
 // The first n bytes: the entries, and what the checker says of them.
-fn say_charges(w: Witness, buf: &[u8], n: usize) {
+fn say_charges(rt: HostRuntime, w: Witness, buf: &[u8], n: usize) {
     if buf.len() < n {
         return;
     }
     let list = &buf[..n];
-    say_entries(list);
+    say_entries(rt, list);
     match answers::check_list(w, list) {
         CheckAnswer::Sum(sum) => {
-            say(b"named ", sum);
-            end_line();
+            say(rt, b"named ", sum);
+            end_line(rt);
         }
-        CheckAnswer::Refused(r) => say_refused(r),
+        CheckAnswer::Refused(r) => say_refused(rt, r),
     }
 }
 
 // Our list, which has room for every member.
-fn say_list(w: Witness) {
+fn say_list(rt: HostRuntime, w: Witness) {
     let mut buf = [0u8; 775];
     match answers::write_list(w, &mut buf) {
-        WriteAnswer::Length(n) => say_charges(w, &buf, n),
-        WriteAnswer::Refused(r) => say_refused(r),
+        WriteAnswer::Length(n) => say_charges(rt, w, &buf, n),
+        WriteAnswer::Refused(r) => say_refused(rt, r),
     }
 }
 
@@ -603,46 +609,46 @@ fn held(log: &[u8], end: usize) -> Witness
     left_by(&log[..end])
 }
 
-fn say_standing(w: Witness) {
-    say_counts(w);
-    say_statuses(w);
-    say_conflict(w);
+fn say_standing(rt: HostRuntime, w: Witness) {
+    say_counts(rt, w);
+    say_statuses(rt, w);
+    say_conflict(rt, w);
 }
 
 // The 129th member comes with no checkpoint yet; row 10 would refuse it later.
-fn say_members(log: &[u8])
+fn say_members(rt: HostRuntime, log: &[u8])
     requires { length log.now ≡ 342011 }
 {
     let w = held(log, EXTRA_MEMBER);
-    say_counts(w);
-    say_reading(w, log, EXTRA_MEMBER);
-    say_conflict(w);
+    say_counts(rt, w);
+    say_reading(rt, w, log, EXTRA_MEMBER);
+    say_conflict(rt, w);
 }
 
 // The standings after 3,072 votes, most of which wait for a later vote to justify their source; then those of the log.
-fn say_standings(log: &[u8])
+fn say_standings(rt: HostRuntime, log: &[u8])
     requires { length log.now ≡ 342011 }
 {
-    say_standing(held(log, EARLY));
-    say_standing(left_by(log));
+    say_standing(rt, held(log, EARLY));
+    say_standing(rt, left_by(log));
 }
 
-fn say_rest(log: &[u8]) {
+fn say_rest(rt: HostRuntime, log: &[u8]) {
     let w = left_by(log);
-    say_reading(w, log, EXTRA_CHECKPOINT);
-    say_reading(w, log, EXTRA_VOTE);
-    say_status(w, 512);
-    say_links(w);
-    say_pairs(w);
-    say_support(w, 512, 0);
-    say_support(w, 0, 512);
-    say_list(w);
+    say_reading(rt, w, log, EXTRA_CHECKPOINT);
+    say_reading(rt, w, log, EXTRA_VOTE);
+    say_status(rt, w, 512);
+    say_links(rt, w);
+    say_pairs(rt, w);
+    say_support(rt, w, 512, 0);
+    say_support(rt, w, 0, 512);
+    say_list(rt, w);
 }
 
-fn main() {
+fn main(rt: HostRuntime) {
     let mut log = [0u8; 342011];
     fill(&mut log);
-    say_members(&log);
-    say_standings(&log);
-    say_rest(&log);
+    say_members(rt, &log);
+    say_standings(rt, &log);
+    say_rest(rt, &log);
 }

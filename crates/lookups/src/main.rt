@@ -2,9 +2,10 @@
 // looked up in the table that it leaves, among all names and among the first 256. The places found are printed; then
 // those of a name with one byte changed, whether a name stands twice, and how much was read as the log has it. The file
 // `stdout` is what expected.py prints.
+#![tactic(auto)]
+
 ghost use Rattle.std.specs.Prelude.{◌≡◌, ◌+◌, ◌≤◌, ◌<◌, length};
 
-use libc::STDOUT_FILENO;
 use state::Witness;
 
 // Where the table has the name of checkpoint 511.
@@ -128,27 +129,33 @@ fn name_at(p: usize) -> usize
     p * 65 - 16
 }
 
-fn say(n: u64, after: &[u8]) {
-    io::print_decimal(STDOUT_FILENO, n);
-    io::write_all(STDOUT_FILENO, after);
+// Some bytes to standard output. Where they cannot be written, the stored output is not met.
+fn say_word(rt: HostRuntime, word: &[u8]) {
+    let _ = rt.write_all(word);
 }
 
-fn end_line() {
-    io::write_all(STDOUT_FILENO, b"\n");
+fn say(rt: HostRuntime, n: u64, after: &[u8]) {
+    let _ = rt.print(n);
+    say_word(rt, after);
+}
+
+fn end_line(rt: HostRuntime) {
+    say_word(rt, b"\n");
 }
 
 // The place of each of the 512 names among the first `count`, 16 to a line.
-fn say_places(w: Witness, count: usize, log: &[u8])
+fn say_places(rt: HostRuntime, w: Witness, count: usize, log: &[u8])
     requires { (count ≤ 512) × (length log.now ≡ 71588) }
 {
     let mut p: usize = 0;
     while p < 512 {
         say(
+            rt,
             names::find_name(&w.names, count, log, name_at(p)) as u64,
             b" ",
         );
         if p % 16 == 15 {
-            end_line();
+            end_line(rt);
         }
         p += 1;
     }
@@ -175,39 +182,39 @@ fn changed(s: &[u8], at: usize, k: usize) -> [u8; 32]
 }
 
 // The place of the name of checkpoint 300 with each of its bytes changed in turn.
-fn say_changed(w: Witness, log: &[u8])
+fn say_changed(rt: HostRuntime, w: Witness, log: &[u8])
     requires { length log.now ≡ 71588 }
 {
     let mut k: usize = 0;
     while k < 32 {
         let name = changed(log, name_at(300), k);
-        say(names::find_name(&w.names, 512, &name, 0) as u64, b" ");
+        say(rt, names::find_name(&w.names, 512, &name, 0) as u64, b" ");
         k += 1;
     }
-    end_line();
+    end_line(rt);
 }
 
-fn say_twice(names: &[u8; 16384], count: usize)
+fn say_twice(rt: HostRuntime, names: &[u8; 16384], count: usize)
     requires { (length names.now ≡ 16384) × (count ≤ 512) }
 {
     if names::names_twice(names, count) {
-        io::write_all(STDOUT_FILENO, b"a name stands twice\n");
+        say_word(rt, b"a name stands twice\n");
     } else {
-        io::write_all(STDOUT_FILENO, b"no name stands twice\n");
+        say_word(rt, b"no name stands twice\n");
     }
 }
 
 // Whether a name stands twice in the table, and in one where checkpoint 511 has the name of checkpoint 5; then in that
 // table without its last name.
-fn say_repeated(w: Witness, d: usize)
+fn say_repeated(rt: HostRuntime, w: Witness, d: usize)
     requires { d < 31 }
 {
     let mut names = w.names;
-    say_twice(&names, 512);
+    say_twice(rt, &names, 512);
     names[LAST_NAME + d] = 0;
     names[LAST_NAME + d + 1] = 5;
-    say_twice(&names, 512);
-    say_twice(&names, 511);
+    say_twice(rt, &names, 512);
+    say_twice(rt, &names, 511);
 }
 
 // Whether checkpoint i + 1 was read with checkpoint i as parent, and the vote for this step between these two.
@@ -221,7 +228,7 @@ fn step_held(w: Witness, i: usize) -> bool
 }
 
 // How many steps of the chain the witness holds as the log has them.
-fn say_steps(w: Witness) {
+fn say_steps(rt: HostRuntime, w: Witness) {
     let mut steps: u64 = 0;
     let mut i: usize = 0;
     while i < 511 {
@@ -230,11 +237,11 @@ fn say_steps(w: Witness) {
         }
         i += 1;
     }
-    say(steps, b" steps as the log has them\n");
+    say(rt, steps, b" steps as the log has them\n");
 }
 
 // The tree of names that differ in bytes d and d + 1; its first 256 names differ in one byte alone.
-fn say_tree(d: usize)
+fn say_tree(rt: HostRuntime, d: usize)
     requires { d < 31 }
 {
     let mut log = [0u8; 71588];
@@ -242,17 +249,17 @@ fn say_tree(d: usize)
     let replayed = replay::replay(blank::blank(), &log, 2000);
     let read = replayed.read;
     let w = read.witness;
-    say_places(w, 512, &log);
-    say_places(w, 256, &log);
-    say_changed(w, &log);
-    say_repeated(w, d);
-    say_steps(w);
+    say_places(rt, w, 512, &log);
+    say_places(rt, w, 256, &log);
+    say_changed(rt, w, &log);
+    say_repeated(rt, w, d);
+    say_steps(rt, w);
 }
 
 // Names alike in their first 30 bytes, in their last 30, and in all but bytes 15 and 16, the end of one word and the
 // beginning of the next.
-fn main() {
-    say_tree(30);
-    say_tree(0);
-    say_tree(15);
+fn main(rt: HostRuntime) {
+    say_tree(rt, 30);
+    say_tree(rt, 0);
+    say_tree(rt, 15);
 }

@@ -1,5 +1,7 @@
 // What programs print of a log that was read to its end: our list of charges, or the board paper. Of a log that is
 // stopped they say what the report says of the stop.
+#![tactic(auto)]
+
 ghost use Rattle.std.specs.Prelude.{◌≤◌, length};
 
 use model::WriteAnswer;
@@ -7,7 +9,7 @@ use stream::Log;
 use turns::Fate;
 
 // Whether the log was read whole. Where its last record is cut, that is told.
-pub fn is_whole(log: Log) -> bool {
+pub fn is_whole(rt: HostRuntime, log: Log) -> bool {
     let fate = log.fate;
     let Fate::Whole = fate else {
         return false;
@@ -15,7 +17,7 @@ pub fn is_whole(log: Log) -> bool {
     if log.left == 0 {
         return true;
     }
-    stream::write_end(log);
+    stream::write_end(rt, log);
     false
 }
 
@@ -35,32 +37,32 @@ fn length_of(a: WriteAnswer, room: usize) -> usize
 }
 
 // The first n bytes, to standard output; with none, why.
-fn print(buf: &[u8], n: usize)
+fn print(rt: HostRuntime, buf: &[u8], n: usize)
     requires { n ≤ length buf.now }
 {
     if n == 0 {
-        buffered::complain(b"log: nothing is printed, since the witness is not sound\n");
+        buffered::complain(rt, b"log: nothing is printed, since the witness is not sound\n");
         return;
     }
-    buffered::print_front(buf, n);
+    buffered::print_front(rt, buf, n);
 }
 
 // Our list. It names each of 128 members at most once: 7 bytes and 6 for each.
-pub fn print_list(log: Log) {
-    if is_whole(log) {
+pub fn print_list(rt: HostRuntime, log: Log) {
+    if is_whole(rt, log) {
         let held = log.witness;
         let mut buf = [0u8; 775];
         let n = length_of(answers::write_list(held, &mut buf), 775);
-        print(&buf, n);
+        print(rt, &buf, n);
     }
 }
 
 // The board paper: 512 checkpoints make 11 pages of 3,250 bytes.
-pub fn print_paper(log: Log) {
-    if is_whole(log) {
+pub fn print_paper(rt: HostRuntime, log: Log) {
+    if is_whole(rt, log) {
         let held = log.witness;
         let mut buf = [0u8; 35750];
         let n = length_of(answers::write_paper(held, &mut buf), 35750);
-        print(&buf, n);
+        print(rt, &buf, n);
     }
 }

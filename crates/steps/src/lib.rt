@@ -1,10 +1,13 @@
 // One turn of reading a log from a file: a call for the report on the bytes at hand, or a read.
+#![tactic(auto)]
+
 ghost use Rattle.std.specs.Prelude.{◌≤◌, length};
 ghost use Rattle.feeding.specs.Feed.{IsFed};
 ghost use Rattle.steps.specs.Turns.{call_of, Advanced, Stepped};
 
 use feeding::Fed;
 use state::Witness;
+use std::io::Read;
 use turns::Turn;
 
 // The log's first bytes where none was read yet, else the records that are at hand.
@@ -48,14 +51,21 @@ fn advance(t: Turn, input: &mut [u8], output: &mut [u8]) -> Turn
 }
 
 // One turn: a call where the bytes at hand are worth one, and what it wrote is written out; else a read.
-pub fn step(fd: i32, t: Turn, lines: bool, input: &mut [u8], output: &mut [u8]) -> Turn
+pub fn step<R: Read>(
+    rt: HostRuntime,
+    from: &mut R,
+    t: Turn,
+    lines: bool,
+    input: &mut [u8],
+    output: &mut [u8],
+) -> Turn
     requires { (t.have ≤ length input.old) × (89 ≤ length input.old) }
     ensures { Stepped t input.old (length output.old) result input.new }
 {
     let have = t.have;
     if buffered::is_ready(t.begun, t.at_end, &input[..have]) {
         let called = advance(t, input, output);
-        return turns::tell(called, lines, output);
+        return turns::tell(rt, called, lines, output);
     }
-    turns::refill(fd, t, input)
+    turns::refill(rt, from, t, input)
 }

@@ -1,11 +1,14 @@
 // A log read from a file to its end, in constant memory: a piece at a time, through the report's calls. What they
 // write goes to standard output, before the next piece is read.
+#![tactic(auto)]
+
 ghost use Rattle.std.specs.Prelude.{◌≤◌, length};
 ghost use Rattle.feeding.specs.Feed.{IsFed, end_call};
 ghost use Rattle.stream.specs.Reads.{Reads, Leaves, IsRead};
 
 use feeding::Fed;
 use state::Witness;
+use std::io::Read;
 use turns::{Fate, Turn};
 
 // What is left of a log that was read to its end: the bytes of a record that stays cut, the number of the next
@@ -20,7 +23,13 @@ pub struct Log {
 
 // Turn after turn, to the log's end or its stop. A proved loop has to end, and nothing says that a file does: so it
 // counts down from a number that no run uses up.
-fn read_pieces(fd: i32, lines: bool, input: &mut [u8], output: &mut [u8]) -> Turn
+fn read_pieces<R: Read>(
+    rt: HostRuntime,
+    from: &mut R,
+    lines: bool,
+    input: &mut [u8],
+    output: &mut [u8],
+) -> Turn
     requires { 89 ≤ length input.old }
     ensures { Reads (length output.old) result input.new }
 {
@@ -31,7 +40,7 @@ fn read_pieces(fd: i32, lines: bool, input: &mut [u8], output: &mut [u8]) -> Tur
         let Fate::Open = fate else {
             return t;
         };
-        t = steps::step(fd, t, lines, input, output);
+        t = steps::step(rt, from, t, lines, input, output);
         turns -= 1;
     }
     t
@@ -52,12 +61,12 @@ fn leave(t: Turn) -> Log
 
 // A log from a file to its end or its stop. With `lines`, the report's lines so far are written to standard output;
 // without, only the line that tells a stop.
-pub fn read_log(fd: i32, lines: bool) -> Log
+pub fn read_log<R: Read>(rt: HostRuntime, from: &mut R, lines: bool) -> Log
     ensures { IsRead 65536 result }
 {
-    let mut input = io::large_buffer();
-    let mut output = io::large_buffer();
-    let t = read_pieces(fd, lines, &mut input, &mut output);
+    let mut input = [0u8; 65536];
+    let mut output = [0u8; 65536];
+    let t = read_pieces(rt, from, lines, &mut input, &mut output);
     leave(t)
 }
 
@@ -76,15 +85,15 @@ fn put_end(log: Log, output: &mut [u8]) -> Fed
 }
 
 // That end, to standard output.
-pub fn write_end(log: Log) {
-    let mut output = io::large_buffer();
+pub fn write_end(rt: HostRuntime, log: Log) {
+    let mut output = [0u8; 65536];
     let fed = put_end(log, &mut output);
     let pause = fed.pause;
     let n = fed.written;
     let fate = turns::fate_after(pause, true);
     if let Fate::Ended = fate {
-        buffered::print_front(&output, n);
+        buffered::print_front(rt, &output, n);
         return;
     }
-    buffered::complain(b"log: its end cannot be told, since the witness is not sound\n");
+    buffered::complain(rt, b"log: its end cannot be told, since the witness is not sound\n");
 }

@@ -1,4 +1,6 @@
 // Texts and numbers, as bytes written into a lent buffer.
+#![tactic(auto)]
+
 ghost use Rattle.std.specs.Prelude.{◌+◌, ◌≤◌, length, replicate};
 ghost use Rattle.model.specs.Paper.{right};
 ghost use Rattle.model.specs.Report.{decimal};

@@ -1,11 +1,14 @@
 // Where reading a log from a file stands, and what a turn does beside its call: what the call wrote is written to
 // standard output, or more of the file is read.
+#![tactic(auto)]
+
 ghost use Rattle.std.specs.Prelude.{◌≡◌, cond, ◌≤◌, ◌<◌, length};
 ghost use Rattle.feeding.specs.Feed.{paused_of};
 ghost use Rattle.turns.specs.Turns.{Starts, fate_of, BeginsLast, Told, Refilled};
 
 use feeding::Pause;
 use state::Witness;
+use std::io::Read;
 
 // How reading a log stands: it goes on; all of the log was read, and its end is still to be told; the report has
 // ended; or it cannot go on, which was told on standard error.
@@ -65,15 +68,15 @@ fn last_line(output: &[u8], n: usize) -> usize
 }
 
 // Writes out the first n bytes: every line, or, where only a stop is to be told, the line that tells it.
-fn print(output: &[u8], n: usize, lines: bool, fate: Fate) -> bool
+fn print(rt: HostRuntime, output: &[u8], n: usize, lines: bool, fate: Fate) -> bool
     requires { n ≤ length output.now }
 {
     if lines {
-        return buffered::print_front(output, n);
+        return buffered::print_front(rt, output, n);
     }
     if let Fate::Ended = fate {
         let from = last_line(output, n);
-        return buffered::print(&output[from..n]);
+        return buffered::print(rt, &output[from..n]);
     }
     true
 }
@@ -89,15 +92,15 @@ fn unless_failed(fate: Fate, failed: bool) -> Fate
 }
 
 // What the call wrote is written out. Where that cannot be done, reading goes no further.
-pub fn tell(t: Turn, lines: bool, output: &[u8]) -> Turn
+pub fn tell(rt: HostRuntime, t: Turn, lines: bool, output: &[u8]) -> Turn
     requires { t.written ≤ length output.now }
     ensures { Told t result }
 {
     let fate = t.fate;
     if let Fate::Failed = fate {
-        buffered::complain(b"log: no record number is left, or the witness is not sound\n");
+        buffered::complain(rt, b"log: no record number is left, or the witness is not sound\n");
     }
-    let is_told = print(output, t.written, lines, fate);
+    let is_told = print(rt, output, t.written, lines, fate);
     let held = t.witness;
     Turn {
         fate: unless_failed(fate, !is_told),
@@ -111,11 +114,11 @@ pub fn tell(t: Turn, lines: bool, output: &[u8]) -> Turn
 }
 
 // One read. It is made only where the bytes at hand are too few for a call, so the buffer has room.
-pub fn refill(fd: i32, t: Turn, input: &mut [u8]) -> Turn
+pub fn refill<R: Read>(rt: HostRuntime, from: &mut R, t: Turn, input: &mut [u8]) -> Turn
     requires { t.have < length input.old }
     ensures { Refilled t input.old result input.new }
 {
-    let filled = buffered::fill(fd, b"log", input, t.have);
+    let filled = buffered::fill(rt, from, b"log", input, t.have);
     let held = t.witness;
     Turn {
         fate: unless_failed(Fate::Open, filled.failed),
