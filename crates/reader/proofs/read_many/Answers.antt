@@ -165,7 +165,6 @@ shape_of-rows-then-passed-eq0 c = rows-length (so (goal.at.shape_of-rows-then-pa
 
 pub returns-then-passed-eq0 : goal.returns-then-passed-eq0
 returns-then-passed-eq0 c =
-    let p = c.before in
     ended (so (goal.at.returns-then-passed-eq0 c).After-decide_record-d) (may (goal.at.returns-then-passed-eq0 c).In-loop-records) (free (goal.at.returns-then-passed-eq0 c).In-loop-records) (told_is (goal.at.returns-then-passed-eq0 c).After-record_length-passed) (sym c.record_length-passed.ensures ∙ c.if-passed-eq0.true)
 
 pub bounds-rows-used : goal.bounds-rows-used
@@ -524,7 +523,6 @@ loop-records-smaller c = omega (arith, may (goal.at.loop-records-smaller c).In-l
 
 pub loop-records-preserved : goal.loop-records-preserved
 loop-records-preserved c =
-    let o = c.before in
     let left = leaves (goal.at.loop-records-preserved c).Joined-d in (
       passed (so (goal.at.loop-records-preserved c).After-decide_record-d) (may (goal.at.loop-records-preserved c).In-loop-records) (free (goal.at.loop-records-preserved c).In-loop-records) (told_is (goal.at.loop-records-preserved c).After-record_length-passed) c.record_length-passed.ensures c.if-passed-eq0.false left.stored-all left.written
           (omega (arith, past (goal.at.loop-records-preserved c).After-record_length-passed)) (bytes (goal.at.loop-records-preserved c).After-decide_record-d),
