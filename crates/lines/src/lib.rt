@@ -1,4 +1,6 @@
 // The report's lines: each is a label and a number, another label and number, and an ending.
+#![tactic(auto)]
+
 ghost use Rattle.std.specs.Prelude.{◌+◌, ◌≤◌, ◌++◌, length};
 ghost use Rattle.model.specs.Evidence.{clear, broken};
 ghost use Rattle.model.specs.Refusals.{refusal_number};

@@ -2,6 +2,8 @@
 // over it. The work is `reader::read_many`'s, which takes a plain log and an offset. A function that takes, makes or
 // holds a reader is proved by hand; `read_from` has plain parameters, so that whoever calls it names no reader and
 // needs no such proof.
+#![tactic(auto)]
+
 ghost use Rattle.std.specs.Prelude.{◌≡◌, ◌+◌, length, drop};
 ghost use Rattle.model.specs.Decide.{decide};
 ghost use Rattle.model.specs.Log.{record_length};

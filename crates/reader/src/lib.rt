@@ -1,4 +1,6 @@
 // Reading a log on: several records in one call.
+#![tactic(auto)]
+
 ghost use Rattle.std.specs.Prelude.{◌≡◌, length};
 ghost use Rattle.state.specs.Sound.{Sound};
 ghost use Rattle.state.specs.Reading.{outcome_of};

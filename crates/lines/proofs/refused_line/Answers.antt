@@ -1,0 +1,12 @@
+-- `lines::refused_line` meets its contract. Assumes nothing.
+use native.Mathlib.Omega.{arith}
+use mathlib.Core.Path.{refl}
+use Rattle.model.specs.Bytes.{ascii}
+use Rattle.model.specs.Report.{refused_line, newline}
+use Rattle.text.proofs.Putting.{spelled, next}
+use Rattle.lines.proofs.refused_line.Goals as goal
+
+pub returns : goal.returns
+unfolding refused_line ascii newline
+returns c =
+    (spelled (next c.pair-next.ensures.0 c.put.ensures) refl, omega arith)
