@@ -1,5 +1,7 @@
 // The public calls of the witness that ask what it holds, write it out, or check a list against it. None asks anything
 // of its caller: what is handed in is checked. Those that read a log are in crate `witness`.
+#![tactic(auto)]
+
 ghost use Rattle.std.specs.Prelude.{◌≡◌};
 ghost use Rattle.model.specs.Answer.{refused};
 ghost use Rattle.model.specs.Buffer.{write_answer_of};
