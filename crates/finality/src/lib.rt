@@ -1,6 +1,8 @@
 // What the witness answers of finality: the backing of a link, the standing of a checkpoint, and the conflict of
 // finals. Every answer takes a sound state: arrays of their types, and a model in which all that is held is
 // well-formed.
+#![tactic(auto)]
+
 pub mod finals;
 
 ghost use Rattle.std.specs.Prelude.{◌≡◌, ◌<◌};

@@ -22,7 +22,7 @@ use Rattle.model.specs.Lists.{any, any_below, all_below, pair_below, first_index
 use Rattle.model.specs.Log.{header, kind_of, size_of, decode_as, record_size, record_length, decode}
 use Rattle.model.specs.Model.{Model, Member, Checkpoint, Vote, start, member_at, checkpoint_at, vote_at, member_index}
 use Rattle.model.specs.Model.{place_of, id_held, name_held, vote_held}
-use Rattle.model.specs.Paper.{larger, best_below, best_support, blanks, left, right, row_text, checkpoint_row}
+use Rattle.model.specs.Paper.{larger, best_below, best_support, left, right, row_text, checkpoint_row}
 use Rattle.model.specs.Paper.{blank_row, row_at, heading, foot, page, pages, paper}
 use Rattle.model.specs.Rule.{standard, quota_of, permitted?}
 use Rattle.model.specs.Report.{report, report_body, report_run, summary, outcome_lines, outcome_line, stops?}

@@ -10,7 +10,7 @@ use Rattle.model.specs.Answer.{Answer, refused}
 use Rattle.model.specs.Bytes.{AreBytes}
 use Rattle.model.specs.Change.{Change, add_member, add_checkpoint, add_vote, give_quota, move_root, append}
 use Rattle.model.specs.Change.{append_all, Decision, single, decided, together, whole}
-use Rattle.model.specs.Decide.{decide_vote, decide_each, decide_record, decide, decide_move}
+use Rattle.model.specs.Decide.{decide_vote, decide_each, decide_record, decide}
 use Rattle.model.specs.Limits.{member_limit, checkpoint_limit, vote_limit}
 use Rattle.model.specs.Log.{Record}
 use Rattle.model.specs.Model.{Model, vote_at}

@@ -1,6 +1,6 @@
 -- The board paper is laid out as request K2 words it: lines of 64 columns, pages of 50 lines, a row for each
 -- checkpoint.
-use Prim.Native.Nat.{ℕ, zero, ◌+◌, ◌*◌, ◌/◌, ◌%◌, ◌^◌, ◌<◌, ◌≤◌}
+use Prim.Native.Nat.{ℕ, ◌+◌, ◌*◌, ◌/◌, ◌%◌, ◌^◌, ◌<◌, ◌≤◌}
 use native.Mathlib.Nat.{div-add-mod', mod-lt}
 use native.Mathlib.Omega.{arith}
 use mathlib.Core.Path.{◌≡◌, refl, sym, ap, ◌∙◌, subst}
@@ -11,14 +11,13 @@ use lib.ListN.{length, replicate, length-append, length-replicate}
 use lib.Seq.{take_all}
 use Rattle.model.specs.Bytes.{part, ascii}
 use Rattle.model.specs.Exact.{Printed, Lines, line_of, line_for, PaperExact, BestExact, shown, zeros}
-use Rattle.model.specs.Finality.{status}
 use Rattle.model.specs.Limits.{member_limit, checkpoint_limit, bond_limit}
 use Rattle.model.specs.Lists.{All, any, concat_below}
 use Rattle.model.specs.Model.{Model}
 use Rattle.model.specs.Paper.{best_support, blanks, left, right, row_text, checkpoint_row, blank_row, row_at, heading}
 use Rattle.model.specs.Paper.{foot, page, pages, paper}
 use Rattle.model.specs.Report.{decimal, newline, status_text}
-use Rattle.model.specs.Support.{Support, support}
+use Rattle.model.specs.Support.{Support}
 use Rattle.model.specs.WellFormed.{WellFormed}
 use Rattle.model.specs.declared.Status.{Status}
 use Rattle.model.specs.declared.Status.TheVariants.{Plain, Justified, Final}

@@ -1,4 +1,5 @@
 // The types of the finality witness, its limits and its refusals. The rules themselves are in specs/.
+#![tactic(auto)]
 
 // A checkpoint's place: checkpoints are counted in the order of acceptance, the root being 0; anew after a move of the
 // root.

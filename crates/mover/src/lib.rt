@@ -1,5 +1,7 @@
 // Moving the root up, on a sound state: rows 41 and 70 to 72, or the state with what stays. Row 40 comes before it, in
 // crate `witness`.
+#![tactic(auto)]
+
 ghost use Rattle.std.specs.Prelude.{◌≡◌, ◌<◌, ◌≤◌, length};
 ghost use Rattle.model.specs.Change.{single};
 ghost use Rattle.model.specs.Decide.{bars_root, risks_evidence, drops_higher, decide_move};

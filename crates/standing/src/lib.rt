@@ -1,5 +1,7 @@
 // Which places of a sound state are justified, which are the root or have a link with a quorum to a direct child, and
 // so the standing of each.
+#![tactic(auto)]
+
 ghost use Rattle.std.specs.Prelude.{◌≡◌, ◌<◌};
 ghost use Rattle.model.specs.Limits.{checkpoint_limit};
 ghost use Rattle.state.specs.Sound.{Sound};

@@ -11,14 +11,14 @@ use Rattle.model.specs.Change.{append, move_root}
 use Rattle.model.specs.Limits.{checkpoint_limit, vote_limit}
 use Rattle.model.specs.Lists.{tabulate, All, none, each}
 use Rattle.model.specs.Model.{Model, Checkpoint, Vote, checkpoint_at, no_checkpoint, no_vote, with_checkpoints, with_votes}
-use Rattle.model.specs.Move.{kept?, kept_places, kept_votes, moved_checkpoint, moved_vote, moved}
+use Rattle.model.specs.Move.{kept?, kept_places, moved_checkpoint, moved}
 use Rattle.model.proofs.Fits.{fewer_votes}
 use Rattle.model.proofs.Lists.{all_map, all_mapped, tabulate-list}
 use Rattle.model.proofs.Picked.{picked-below, rank_le}
 use Rattle.state.specs.declared.Witness.{Witness}
 use Rattle.state.specs.Sound.{Typed}
-use Rattle.state.specs.State.{place, height, front, model_of, checkpoint_in, vote_in, member_in, with_root}
-use Rattle.state.proofs.Entries.{count-checkpoints, count-votes, checkpoint-is}
+use Rattle.state.specs.State.{place, height, front, model_of, checkpoint_in, vote_in, with_root}
+use Rattle.state.proofs.Entries.{count-checkpoints, checkpoint-is}
 
 -- ---- names of 32 bytes, one after another
 

@@ -6,12 +6,7 @@ use lib.ListN.{drop}
 use Rattle.model.specs.Checker.{entries, check_from}
 use Rattle.model.specs.Limits.{bond_limit}
 use Rattle.state.specs.State.{model_of}
-use Rattle.state.specs.declared.Witness.{Witness}
 use Rattle.checker.proofs.check_entries.Given as goal
-
--- ---- what is known there
-abbrev pub w : In-loop-i → Witness
-w c = c.args.t1
 
 abbrev pub invariant-loop-i : goal.invariant-loop-i
 invariant-loop-i l =

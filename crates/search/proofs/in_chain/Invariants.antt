@@ -1,6 +1,5 @@
 -- `search::in_chain` meets its contract. The loop's invariant: `hit` and what the numbers left say make what all numbers of the
 -- chain say. Assumes nothing.
-use Prim.Native.Nat.{◌-◌}
 use lib.Dec.{eqb}
 use lib.ListN.{get_or}
 use Rattle.search.proofs.Chains.{Walked}

@@ -1,6 +1,6 @@
 -- `state::begin` meets its contract: its tests are rows 1 to 3, in their order. Assumes nothing.
 use mathlib.Core.Path.{refl, sym, ap, ◌∙◌}
-use borrow.Author.Tests.{lt-ltb, le-ltb, eq-eqb, ne_eqb, not-true, not-false}
+use borrow.Author.Tests.{lt-ltb, le-ltb, eq-eqb, ne_eqb}
 use lib.Dec.{eqb}
 use Rattle.model.specs.Answer.{row}
 use Rattle.state.proofs.Header.{header-rows, refused-beginning, right-beginning}

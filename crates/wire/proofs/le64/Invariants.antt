@@ -1,6 +1,6 @@
 -- `wire::le64` meets its contract. The loop's invariant: `word` is the word of the bytes from `i` on, and fits them.
 -- Assumes nothing.
-use Prim.Native.Nat.{◌≤◌, ◌-◌}
+use Prim.Native.Nat.{◌≤◌}
 use Rattle.model.specs.Bytes.{part}
 use Rattle.wire.proofs.Words.{IsWord}
 use Rattle.wire.proofs.le64.Given as goal

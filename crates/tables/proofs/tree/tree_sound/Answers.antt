@@ -1,7 +1,5 @@
-use Prim.Native.Nat.{◌-◌}
 use native.Mathlib.Omega.{arith}
 use mathlib.Core.Path.{sym}
-use mathlib.Core.Bool.{true}
 use Rattle.search.proofs.Below.{all_more, all-fails, all_fewer}
 use Rattle.tables.proofs.Steps.{not_smaller, not_higher, one_higher, root-sound}
 use Rattle.tables.proofs.tree.tree_sound.Goals as goal

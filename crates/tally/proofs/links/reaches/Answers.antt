@@ -9,7 +9,7 @@ use Rattle.voters.specs.Weights.{carried}
 use Rattle.tally.specs.Chains.{voters_at}
 use Rattle.tally.proofs.links.reaches.Invariants.{leads}
 use Rattle.tally.proofs.links.reaches.Goals as goal
-use Rattle.tally.proofs.links.reaches.Goals.{In-loop-s, Joined-justified-s, else-justified-s, then-justified-s}
+use Rattle.tally.proofs.links.reaches.Goals.{In-loop-s, Joined-justified-s, else-justified-s, then-justified-s+else-carries}
 
 abbrev leading : In-loop-s → ℕ → Bool
 leading r =
@@ -27,7 +27,7 @@ returns-then-carries c =
 
 -- a source passed does not lead on: it is not justified, or its link is not carried
 fails : (c : Joined-justified-s) → leading (goal.at.Joined-justified-s c).In-loop-s c.loop-s.s ≡ false
-fails c = elim c.if-justified-s.branch [ then-justified-s w ↦ ap₂ ◌&&◌ w.if-justified-s.true (sym w.carries.ensures ∙ w.if-carries.left) | else-justified-s w ↦ ap₂ ◌&&◌ w.left refl ]
+fails c = elim c.if-justified-s.branch [ then-justified-s+else-carries w ↦ ap₂ ◌&&◌ w.if-justified-s.true (sym w.carries.ensures ∙ w.if-carries.false) | else-justified-s w ↦ ap₂ ◌&&◌ w.if-justified-s.false refl ]
 
 pub loop-s-preserved : goal.loop-s-preserved
 loop-s-preserved c = (omega arith, sym (fails (goal.at.loop-s-preserved c).Joined-justified-s) ∙ any-more false _ _ c.loop-s.invariant.1)
