@@ -1,4 +1,6 @@
 // The board paper: a row for each checkpoint, laid out in pages and written into a lent buffer.
+#![tactic(auto)]
+
 pub mod lines;
 pub mod row_data;
 
