@@ -1,5 +1,7 @@
 // How a call of the report goes on: what it comes to, and the records of a piece read on, the lines of those that are
 // refused into a lent buffer.
+#![tactic(auto)]
+
 ghost use Rattle.std.specs.Prelude.{◌≡◌, ◌+◌, ◌*◌, ◌<◌, ◌≤◌, length, drop};
 ghost use Rattle.state.specs.Reading.{outcome_of};
 ghost use Rattle.state.specs.Sound.{Sound};

@@ -1,4 +1,6 @@
 // The report's summary of a state: a line for each checkpoint and each member, and that of the bonds.
+#![tactic(auto)]
+
 pub mod checkpoints;
 pub mod members;
 
