@@ -1,5 +1,7 @@
 // The report of a log, its lines into a lent buffer. The log is fed in pieces: `open` takes its first bytes, `feed` the
 // records of each piece, `close` its end. What a call does not pass over belongs to the front of the next piece.
+#![tactic(auto)]
+
 ghost use Rattle.std.specs.Prelude.{ℕ, ◌≤◌, length, drop, List, []};
 ghost use Rattle.state.specs.State.{model_of};
 ghost use Rattle.state.specs.Sound.{Sound};

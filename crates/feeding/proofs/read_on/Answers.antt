@@ -8,7 +8,7 @@ use Rattle.text.proofs.Putting.{kept}
 use Rattle.feeding.proofs.Onward.{none_yet, end-inside, room_and_number, spent-here, May, few-records, few-entries}
 use Rattle.feeding.proofs.Onward.{rows_long, numbers, batch_here, some-passed, room-left, halted-last}
 use Rattle.feeding.proofs.read_on.Goals as goal
-use Rattle.feeding.proofs.read_on.Goals.{After-read_from-r, After-rows-1}
+use Rattle.feeding.proofs.read_on.Goals.{After-read_from-r, After-batch-most}
 
 pub loop-buf-init : goal.loop-buf-init
 loop-buf-init c =
@@ -31,49 +31,49 @@ pub slice_bounds-rows-end : goal.slice_bounds-rows-end
 slice_bounds-rows-end c = omega (arith, c.batch-most.ensures.1, c.loop-buf.invariant.0)
 
 -- the rows lent
-abbrev lent : After-rows-1 → List ℕ
+abbrev lent : After-batch-most → List ℕ
 lent c = take c.batch-most.result c.loop-buf.rows
 
-lent-long : (c : After-rows-1) → length (lent (goal.at.After-rows-1 c).After-rows-1) ≡ c.batch-most.result
+lent-long : (c : After-batch-most) → length (lent (goal.at.After-batch-most c).After-batch-most) ≡ c.batch-most.result
 lent-long c = length-take-le c.batch-most.result c.loop-buf.rows (omega (arith, c.batch-most.ensures.1, c.loop-buf.invariant.0))
 
 -- each entry that may be written has room
-may : (c : After-rows-1)
+may : (c : After-batch-most)
     → let l = c.loop-buf in
-    May c.args.log.now l.buf l.k l.end (length (lent (goal.at.After-rows-1 c).After-rows-1))
+    May c.args.log.now l.buf l.k l.end (length (lent (goal.at.After-batch-most c).After-batch-most))
 may c =
     let l = c.loop-buf in
     record {
-      bytes = λ i h. (c.shared_slice_known-1.given i).fits;
-      room = omega (arith, lent-long (goal.at.After-rows-1 c).After-rows-1, c.batch-most.ensures.2);
+      bytes = λ i h. (c.type_inv.log i).fits;
+      room = omega (arith, lent-long (goal.at.After-batch-most c).After-batch-most, c.batch-most.ensures.2);
       number = (room_and_number (length l.buf - l.end) l.k c.loop-buf-test.true).1;
     }
 
 pub slice_bounds-read_from-end : goal.slice_bounds-read_from-end
-slice_bounds-read_from-end c = sym (lent-long (goal.at.slice_bounds-read_from-end c).After-rows-1)
+slice_bounds-read_from-end c = sym (lent-long (goal.at.slice_bounds-read_from-end c).After-batch-most)
 
 pub read_from-r-requires : goal.read_from-r-requires
 read_from-r-requires c = c.loop-buf.invariant.1.sound
 
 few : (c : After-read_from-r) → c.read_from-r.result.used ≤ c.batch-most.result
-few c = omega (arith, few-entries c.loop-buf.invariant.1 (may (goal.at.After-read_from-r c).After-rows-1) c.read_from-r.ensures, lent-long (goal.at.After-read_from-r c).After-rows-1)
+few c = omega (arith, few-entries c.loop-buf.invariant.1 (may (goal.at.After-read_from-r c).After-batch-most) c.read_from-r.ensures, lent-long (goal.at.After-read_from-r c).After-batch-most)
 
 -- the rows that were not lent
-abbrev others : After-rows-1 → List ℕ
+abbrev others : After-batch-most → List ℕ
 others c = drop c.batch-most.result c.loop-buf.rows
 
-others-long : (c : After-rows-1) → length (lent (goal.at.After-rows-1 c).After-rows-1) + length (others (goal.at.After-rows-1 c).After-rows-1) ≡ 1024
-others-long c = sym (length-append (lent (goal.at.After-rows-1 c).After-rows-1) (others (goal.at.After-rows-1 c).After-rows-1)) ∙ ap length (take-append-drop c.batch-most.result c.loop-buf.rows) ∙ c.loop-buf.invariant.0
+others-long : (c : After-batch-most) → length (lent (goal.at.After-batch-most c).After-batch-most) + length (others (goal.at.After-batch-most c).After-batch-most) ≡ 1024
+others-long c = sym (length-append (lent (goal.at.After-batch-most c).After-batch-most) (others (goal.at.After-batch-most c).After-batch-most)) ∙ ap length (take-append-drop c.batch-most.result c.loop-buf.rows) ∙ c.loop-buf.invariant.0
 
 -- the entries written lie within all rows
-rows-inside : (c : After-read_from-r) → c.read_from-r.result.used ≤ length (c.read_from-r.new.rows ++ others (goal.at.After-read_from-r c).After-rows-1)
+rows-inside : (c : After-read_from-r) → c.read_from-r.result.used ≤ length (c.read_from-r.new.rows ++ others (goal.at.After-read_from-r c).After-batch-most)
 rows-inside c =
-    omega (arith, few c, lent-long (goal.at.After-read_from-r c).After-rows-1, rows_long c.loop-buf.invariant.1 (may (goal.at.After-read_from-r c).After-rows-1) c.read_from-r.ensures (others (goal.at.After-read_from-r c).After-rows-1) refl)
+    omega (arith, few c, lent-long (goal.at.After-read_from-r c).After-batch-most, rows_long c.loop-buf.invariant.1 (may (goal.at.After-read_from-r c).After-batch-most) c.read_from-r.ensures (others (goal.at.After-read_from-r c).After-batch-most) refl)
 
 -- those that are read of it
 taken-long : (c : After-read_from-r)
-    → length (take c.read_from-r.result.used (c.read_from-r.new.rows ++ others (goal.at.After-read_from-r c).After-rows-1)) ≡ c.read_from-r.result.used
-taken-long c = length-take-le c.read_from-r.result.used (c.read_from-r.new.rows ++ others (goal.at.After-read_from-r c).After-rows-1) (rows-inside c)
+    → length (take c.read_from-r.result.used (c.read_from-r.new.rows ++ others (goal.at.After-read_from-r c).After-batch-most)) ≡ c.read_from-r.result.used
+taken-long c = length-take-le c.read_from-r.result.used (c.read_from-r.new.rows ++ others (goal.at.After-read_from-r c).After-batch-most) (rows-inside c)
 
 pub slice_bounds-rows-end-in-loop-buf : goal.slice_bounds-rows-end-in-loop-buf
 slice_bounds-rows-end-in-loop-buf c = rows-inside (goal.at.slice_bounds-rows-end-in-loop-buf c).After-read_from-r
@@ -85,27 +85,27 @@ pub refused_lines-end-requires : goal.refused_lines-end-requires
 refused_lines-end-requires c =
     let l = c.loop-buf in
     let so = l.invariant.1 in (
-      omega (arith, taken-long (goal.at.refused_lines-end-requires c).After-read_from-r, few (goal.at.refused_lines-end-requires c).After-read_from-r, lent-long (goal.at.refused_lines-end-requires c).After-rows-1, (may (goal.at.refused_lines-end-requires c).After-rows-1).room, end-inside so),
-      omega (arith, numbers so (may (goal.at.refused_lines-end-requires c).After-rows-1) c.read_from-r.ensures (others (goal.at.refused_lines-end-requires c).After-rows-1), few-records so (may (goal.at.refused_lines-end-requires c).After-rows-1) c.read_from-r.ensures, so.numbered),
+      omega (arith, taken-long (goal.at.refused_lines-end-requires c).After-read_from-r, few (goal.at.refused_lines-end-requires c).After-read_from-r, lent-long (goal.at.refused_lines-end-requires c).After-batch-most, (may (goal.at.refused_lines-end-requires c).After-batch-most).room, end-inside so),
+      omega (arith, numbers so (may (goal.at.refused_lines-end-requires c).After-batch-most) c.read_from-r.ensures (others (goal.at.refused_lines-end-requires c).After-batch-most), few-records so (may (goal.at.refused_lines-end-requires c).After-batch-most) c.read_from-r.ensures, so.numbered),
     )
 
 pub overflow_add-k : goal.overflow_add-k
 overflow_add-k c =
     let r = (goal.at.overflow_add-k c).After-read_from-r in
     let so = c.loop-buf.invariant.1 in
-    omega (arith, few-records so (may (goal.at.overflow_add-k c).After-rows-1) c.read_from-r.ensures, so.numbered)
+    omega (arith, few-records so (may (goal.at.overflow_add-k c).After-batch-most) c.read_from-r.ensures, so.numbered)
 
 pub halt-requires : goal.halt-requires
 halt-requires c =
     let r = (goal.at.halt-requires c).After-read_from-r in
     let so = c.loop-buf.invariant.1 in
-    let room = room-left so (may (goal.at.halt-requires c).After-rows-1) c.read_from-r.ensures (others (goal.at.halt-requires c).After-rows-1) c.refused_lines-end.ensures.0 _ c.in-EndedBy.is in
-    omega (arith, room, end-inside (batch_here so (may (goal.at.halt-requires c).After-rows-1) c.read_from-r.ensures (others (goal.at.halt-requires c).After-rows-1) c.refused_lines-end.ensures.0))
+    let room = room-left so (may (goal.at.halt-requires c).After-batch-most) c.read_from-r.ensures (others (goal.at.halt-requires c).After-batch-most) c.refused_lines-end.ensures.0 _ c.in-EndedBy.is in
+    omega (arith, room, end-inside (batch_here so (may (goal.at.halt-requires c).After-batch-most) c.read_from-r.ensures (others (goal.at.halt-requires c).After-batch-most) c.refused_lines-end.ensures.0))
 
 pub returns-in-EndedBy : goal.returns-in-EndedBy
 returns-in-EndedBy c =
     let r = (goal.at.returns-in-EndedBy c).After-read_from-r in
-    halted-last c.loop-buf.invariant.1 (may (goal.at.returns-in-EndedBy c).After-rows-1) c.read_from-r.ensures (others (goal.at.returns-in-EndedBy c).After-rows-1) c.refused_lines-end.ensures.0 _ c.in-EndedBy.is c.halt.ensures
+    halted-last c.loop-buf.invariant.1 (may (goal.at.returns-in-EndedBy c).After-batch-most) c.read_from-r.ensures (others (goal.at.returns-in-EndedBy c).After-batch-most) c.refused_lines-end.ensures.0 _ c.in-EndedBy.is c.halt.ensures
 
 pub shape_of-buf-in-EndedBy : goal.shape_of-buf-in-EndedBy
 shape_of-buf-in-EndedBy c = kept (returns-in-EndedBy c).text
@@ -116,17 +116,17 @@ loop-buf-smaller c =
     let so = c.loop-buf.invariant.1 in
     omega (
       arith,
-      lent-long (goal.at.loop-buf-smaller c).After-rows-1,
+      lent-long (goal.at.loop-buf-smaller c).After-batch-most,
       c.batch-most.ensures.0,
-      few-records so (may (goal.at.loop-buf-smaller c).After-rows-1) c.read_from-r.ensures,
-      some-passed so (may (goal.at.loop-buf-smaller c).After-rows-1) c.read_from-r.ensures (others (goal.at.loop-buf-smaller c).After-rows-1) c.refused_lines-end.ensures.0 (omega (arith, lent-long (goal.at.loop-buf-smaller c).After-rows-1, c.batch-most.ensures.0)) c.in-Spent.is,
+      few-records so (may (goal.at.loop-buf-smaller c).After-batch-most) c.read_from-r.ensures,
+      some-passed so (may (goal.at.loop-buf-smaller c).After-batch-most) c.read_from-r.ensures (others (goal.at.loop-buf-smaller c).After-batch-most) c.refused_lines-end.ensures.0 (omega (arith, lent-long (goal.at.loop-buf-smaller c).After-batch-most, c.batch-most.ensures.0)) c.in-Spent.is,
     )
 
 pub loop-buf-preserved : goal.loop-buf-preserved
 loop-buf-preserved c =
     let r = (goal.at.loop-buf-preserved c).After-read_from-r in
     let so = c.loop-buf.invariant.1 in
-    (rows_long so (may (goal.at.loop-buf-preserved c).After-rows-1) c.read_from-r.ensures (others (goal.at.loop-buf-preserved c).After-rows-1) refl ∙ others-long (goal.at.loop-buf-preserved c).After-rows-1, batch_here so (may (goal.at.loop-buf-preserved c).After-rows-1) c.read_from-r.ensures (others (goal.at.loop-buf-preserved c).After-rows-1) c.refused_lines-end.ensures.0)
+    (rows_long so (may (goal.at.loop-buf-preserved c).After-batch-most) c.read_from-r.ensures (others (goal.at.loop-buf-preserved c).After-batch-most) refl ∙ others-long (goal.at.loop-buf-preserved c).After-batch-most, batch_here so (may (goal.at.loop-buf-preserved c).After-batch-most) c.read_from-r.ensures (others (goal.at.loop-buf-preserved c).After-batch-most) c.refused_lines-end.ensures.0)
 
 pub overflow_sub-buf-2 : goal.overflow_sub-buf-2
 overflow_sub-buf-2 c = end-inside c.loop-buf.invariant.1

@@ -72,7 +72,7 @@ abbrev s : After-decide_record-d → List ℕ
 s c = drop (next c) (log c)
 
 bytes : (c : After-decide_record-d) → AreBytes (log c)
-bytes c i h = (c.shared_slice_known-1.given i).fits
+bytes c i h = (c.type_inv.log i).fits
 
 sound : (c : After-decide_record-d) → Sound (held c)
 sound c = (so c).sound
