@@ -294,6 +294,7 @@ alone w e plain itself =
     on (refused n) h = refl
     on (answer nothing_left) h = refl
     on (answer taken) h = refl
+    on (answer (bundled _)) h = elim h [ ]
 
 one_in_singles : (w : Witness) → Typed w → sound? w ≡ true → (e : Event) → OneInSingles w e
 unfolding singles apart told_of decide_event flat_map
@@ -313,6 +314,7 @@ one_in_singles w typed is-sound (reading s) = ⊎_elim plain good (told-cases m 
     itself (refused n) h votes else = refl
     itself (answer nothing_left) h votes else = refl
     itself (answer taken) h votes else = refl
+    itself (answer (bundled _)) h votes else = elim h [ ]
 
     plain : Plain (decide m s).told → OneInSingles w (reading s)
     plain h =
