@@ -1,4 +1,6 @@
 // A log read from its header on, and then asked: its book answers.
+#![tactic(auto)]
+
 ghost use Rattle.std.specs.Prelude.{◌≡◌};
 ghost use Rattle.model.specs.Log.{header};
 ghost use Rattle.ask.specs.Book.{IsAnswers, book_buffer};

@@ -1,4 +1,6 @@
 // Answers as numbers, for a caller in Rust or C.
+#![tactic(auto)]
+
 ghost use Rattle.std.specs.Prelude.{◌≡◌, List, ℕ};
 ghost use Rattle.model.specs.Answer.{row_of};
 ghost use Rattle.model.specs.Buffer.{write_answer_of};

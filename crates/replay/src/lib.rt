@@ -1,5 +1,7 @@
 // What ties the theorem of crate guarantee to code: a log read from its header on, so many of its records as are asked
 // for, to its end or its stop.
+#![tactic(auto)]
+
 ghost use Rattle.std.specs.Prelude.{◌≡◌, drop};
 ghost use Rattle.model.specs.Answer.{answer};
 ghost use Rattle.model.specs.Change.{nothing_left};

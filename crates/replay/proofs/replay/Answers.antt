@@ -1,0 +1,16 @@
+-- `replay::replay` meets its contract: the header's rows, then every record from offset 37 on. Assumes nothing.
+use Rattle.replay.proofs.Onward.{begun-sound, begun_replay, refused_replay}
+use Rattle.replay.proofs.replay.Goals as goal
+
+pub read_rest-read-requires : goal.read_rest-read-requires
+read_rest-read-requires c =
+    begun-sound c.args.w c.args.log.now c.args.limit c.begin-begun.result c.begin-begun.ensures c.in-Begun.is
+
+pub returns-in-Begun : goal.returns-in-Begun
+returns-in-Begun c =
+    begun_replay c.args.w c.args.log.now c.args.limit c.begin-begun.result c.begin-begun.ensures c.in-Begun.is c.read_rest-read.result
+    c.read_rest-read.ensures
+
+pub returns-in-Refused : goal.returns-in-Refused
+returns-in-Refused c =
+    refused_replay c.args.w c.args.log.now c.args.limit c.begin-begun.result c.begin-begun.ensures _ c.in-Refused.is
