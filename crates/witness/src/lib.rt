@@ -1,5 +1,7 @@
 // The public calls of the witness that read a log, and that move its root up. None asks anything of its caller: what is
 // handed in is checked. Those that ask what the witness holds are in crate `answers`.
+#![tactic(auto)]
+
 ghost use Rattle.std.specs.Prelude.{◌+◌, length, drop};
 ghost use Rattle.model.specs.Bytes.{part};
 ghost use Rattle.model.specs.Log.{header};
