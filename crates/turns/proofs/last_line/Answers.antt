@@ -1,5 +1,5 @@
 -- `turns::last_line` meets its contract.
-use Rattle.std.proofs.Common.{◌≡◌, ℕ, ◌+◌, ◌<◌, ◌≤◌, get_or, subst, arith}
+use Rattle.std.proofs.Common.{◌≡◌, ℕ, ◌+◌, get_or, subst, arith}
 use mathlib.Core.Logic.{⊎_elim}
 use Rattle.model.proofs.Lists.{lt_or_ge}
 use Rattle.turns.proofs.last_line.Goals as goal
