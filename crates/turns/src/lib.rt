@@ -98,7 +98,10 @@ pub fn tell(rt: HostRuntime, t: Turn, lines: bool, output: &[u8]) -> Turn
 {
     let fate = t.fate;
     if let Fate::Failed = fate {
-        buffered::complain(rt, b"log: no record number is left, or the witness is not sound\n");
+        buffered::complain(
+            rt,
+            b"log: no record number is left, or the witness is not sound\n",
+        );
     }
     let is_told = print(rt, output, t.written, lines, fate);
     let held = t.witness;
