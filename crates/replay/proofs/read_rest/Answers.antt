@@ -15,7 +15,7 @@ use Rattle.reader.specs.Many.{read_many, IsBatch}
 use Rattle.reader.proofs.Made.{many-ends}
 use Rattle.reader.proofs.Votes.{votes-fit, votes_are}
 use Rattle.replay.proofs.Onward.{rest, none_read, limit_met, log-ended}
-use Rattle.replay.proofs.Calls.{Call, few-read, each-passed, passed_then, one_more, stopped, some-passed, Held, held_all}
+use Rattle.replay.proofs.Calls.{Call, few-read, each-passed, passed_then, one_more, stopped, passed-some, some-passed, Held, held_all}
 use Rattle.replay.proofs.read_rest.Goals as goal
 use Rattle.replay.proofs.read_rest.Goals.{After-last_votes-votes, After-read_from-r, In-loop-at}
 
@@ -37,7 +37,7 @@ call : (c : After-read_from-r)
     → let i = (goal.at.After-read_from-r c).In-loop-at in
     let l = c.loop-at in
     let a = c.args in
-    Call (rest (answer nothing_left) 0 a.w a.limit a.log.now a.from) a.limit a.log.now l.invariant.0.told l.records l.held l.at 1024 l.rows c.read_from-r.result c.read_from-r.new.1.1.1.1.0
+    Call (rest (answer nothing_left) 0 a.w a.limit a.log.now a.from) a.limit a.log.now l.invariant.0.told l.records l.held l.at 1024 l.rows c.read_from-r.result c.read_from-r.new.rows
 call c =
     let i = (goal.at.After-read_from-r c).In-loop-at in
     let l = c.loop-at in
@@ -47,10 +47,10 @@ call c =
       bytes = λ j h. (c.shared_slice_known-1.given j).fits;
       below = below (goal.at.After-read_from-r c).In-loop-at;
       roomy = omega arith;
-      is = subst (λ (n : ℕ). IsBatch (read_many (a.limit - l.records) n l.held a.log.now l.at) l.rows c.read_from-r.result c.read_from-r.new.1.1.1.1.0) l.invariant.1 c.read_from-r.ensures;
+      is = subst (λ (n : ℕ). IsBatch (read_many (a.limit - l.records) n l.held a.log.now l.at) l.rows c.read_from-r.result c.read_from-r.new.rows) l.invariant.1 c.read_from-r.ensures;
     }
 
-rows_long : (c : After-read_from-r) → length c.read_from-r.new.1.1.1.1.0 ≡ 1024
+rows_long : (c : After-read_from-r) → length c.read_from-r.new.rows ≡ 1024
 rows_long c =
     let l = c.loop-at in
     let a = c.args in
@@ -75,11 +75,11 @@ last_votes-votes-requires c =
     votes-fit (a.limit - l.records) 1024 l.held a.log.now l.at (call (goal.at.last_votes-votes-requires c).After-read_from-r).is
 
 pub overflow_add-records : goal.overflow_add-records
-overflow_add-records c = omega (arith, few-read (call (goal.at.overflow_add-records c).After-read_from-r), below (goal.at.overflow_add-records c).In-loop-at, c.fits.limit)
+overflow_add-records c = omega (arith, few-read (call (goal.at.overflow_add-records c).After-read_from-r), below (goal.at.overflow_add-records c).In-loop-at, c.ranges.limit)
 
 pub overflow_add-result : goal.overflow_add-result
 overflow_add-result c =
-    omega (arith, one_more (call (goal.at.overflow_add-result c).After-read_from-r) _ c.in-EndedBy.is, c.fits.limit)
+    omega (arith, one_more (call (goal.at.overflow_add-result c).After-read_from-r) _ c.in-EndedBy.is, c.ranges.limit)
 
 pub returns-then-at-log : goal.returns-then-at-log
 returns-then-at-log c =
@@ -100,7 +100,7 @@ went_on c some =
     record {
       told = _;
       so = some-passed (call (goal.at.After-last_votes-votes c).After-read_from-r) some;
-      last-is = (call (goal.at.After-last_votes-votes c).After-read_from-r).is.new;
+      last-is = (call (goal.at.After-last_votes-votes c).After-read_from-r).is.last;
       votes_are = c.last_votes-votes.ensures ∙ votes_are (a.limit - l.records) 1024 l.held a.log.now l.at (call (goal.at.After-last_votes-votes c).After-read_from-r).is;
     }
 
@@ -112,6 +112,15 @@ pub loop-at-preserved-else-at-log : goal.loop-at-preserved-else-at-log
 loop-at-preserved-else-at-log c =
     let v = c.before.before.before.before.before in
     (went_on (goal.at.loop-at-preserved-else-at-log c).After-last_votes-votes (passed_then (call (goal.at.loop-at-preserved-else-at-log c).After-read_from-r) _ c.in-EndedBy.is (inside (goal.at.loop-at-preserved-else-at-log c).In-loop-at) c.if-at-log.false), rows_long (goal.at.loop-at-preserved-else-at-log c).After-read_from-r)
+
+pub loop-at-smaller : goal.loop-at-smaller
+loop-at-smaller c =
+    omega (arith, each-passed (call (goal.at.loop-at-smaller c).After-read_from-r), passed-some (call (goal.at.loop-at-smaller c).After-read_from-r) c.in-Spent.is, inside (goal.at.loop-at-smaller c).In-loop-at)
+
+pub loop-at-preserved : goal.loop-at-preserved
+loop-at-preserved c =
+    let v = c.before.before.before in
+    (went_on (goal.at.loop-at-preserved c).After-last_votes-votes (passed-some (call (goal.at.loop-at-preserved c).After-read_from-r) c.in-Spent.is), rows_long (goal.at.loop-at-preserved c).After-read_from-r)
 
 pub returns : goal.returns
 returns c =
