@@ -1,5 +1,7 @@
 // The public calls for a caller in Rust or C. Each asks nothing of its caller: the state handed in is checked by row
 // 40.
+#![tactic(auto)]
+
 ghost use Rattle.std.specs.Prelude.{◌≡◌, ◌+◌, length, drop};
 ghost use Rattle.model.specs.Evidence.{our_list};
 ghost use Rattle.model.specs.Log.{header};
