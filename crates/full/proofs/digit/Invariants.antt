@@ -1,5 +1,4 @@
 -- The bytes after it that are left.
-use Rattle.std.proofs.Common.{◌-◌}
 use Rattle.full.proofs.digit.Given as goal
 
 abbrev pub decreases-loop-i : goal.decreases-loop-i
