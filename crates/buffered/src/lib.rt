@@ -154,12 +154,15 @@ fn write_all<W: Write>(to: &mut W, bytes: &[u8]) -> Result<()> {
     Err(Error::from(ErrorKind::Interrupted))
 }
 
-// Writes the bytes to standard output; answers whether that was done.
+// Writes the bytes to standard output; answers whether that was done. Where nobody reads them any more, as after
+// `| head -1`, there is nothing to tell.
 pub fn print(rt: HostRuntime, bytes: &[u8]) -> bool {
     match write_all(&mut rt.stdout(), bytes) {
         Ok(()) => true,
         Err(why) => {
-            fail(rt, b"standard output", &why);
+            if why.kind() != ErrorKind::BrokenPipe {
+                fail(rt, b"standard output", &why);
+            }
             false
         }
     }
