@@ -137,7 +137,10 @@ fn report_moved(rt: HostRuntime, log: Log, count: usize) {
 fn main(rt: HostRuntime) {
     let count = buffered::arg_count(rt);
     if !all_places(rt, count) {
-        buffered::complain(rt, b"usage: ffw_move PLACE.. < LOG, with places from 0 to 65535\n");
+        buffered::complain(
+            rt,
+            b"usage: ffw_move PLACE.. < LOG, with places from 0 to 65535\n",
+        );
         return;
     }
     let log = stream::read_log(rt, &mut rt.stdin(), false);

@@ -1,7 +1,6 @@
 // The log reader that document 01 names: the lent log and the offset reached, as one record, and few thin functions
-// over it. The work is `reader::read_many`'s, which takes a plain log and an offset. A function that takes, makes or
-// holds a reader is proved by hand; `read_from` has plain parameters, so that whoever calls it names no reader and
-// needs no such proof.
+// over it. The work is `reader::read_many`'s, which takes a plain log and an offset. `read_from` has plain parameters,
+// so that whoever calls it names no reader.
 #![tactic(auto)]
 
 ghost use Rattle.std.specs.Prelude.{◌≡◌, ◌+◌, length, drop};

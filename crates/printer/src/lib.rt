@@ -41,7 +41,10 @@ fn print(rt: HostRuntime, buf: &[u8], n: usize)
     requires { n ≤ length buf.now }
 {
     if n == 0 {
-        buffered::complain(rt, b"log: nothing is printed, since the witness is not sound\n");
+        buffered::complain(
+            rt,
+            b"log: nothing is printed, since the witness is not sound\n",
+        );
         return;
     }
     buffered::print_front(rt, buf, n);

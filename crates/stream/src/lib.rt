@@ -95,5 +95,8 @@ pub fn write_end(rt: HostRuntime, log: Log) {
         buffered::print_front(rt, &output, n);
         return;
     }
-    buffered::complain(rt, b"log: its end cannot be told, since the witness is not sound\n");
+    buffered::complain(
+        rt,
+        b"log: its end cannot be told, since the witness is not sound\n",
+    );
 }

@@ -35,7 +35,7 @@ total_line-requires c = omega (arith, room (goal.at.total_line-requires c).After
 
 pub returns : goal.returns
 returns c = (
-      spelled (next (next c.checkpoint_lines-one.ensures.0 c.member_lines-two.ensures.0) c.total_line.ensures.0)
-          (summary-is c.args.w c.total_bond-total.ensures c.named_bonds-named.ensures c.conflict-conflict.ensures),
-      omega (arith, room (goal.at.returns c).After-member_lines-two, c.total_line.ensures.1),
-    )
+  spelled (next (next c.checkpoint_lines-one.ensures.0 c.member_lines-two.ensures.0) c.total_line.ensures.0)
+      (summary-is c.args.w c.total_bond-total.ensures c.named_bonds-named.ensures c.conflict-conflict.ensures),
+  omega (arith, room (goal.at.returns c).After-member_lines-two, c.total_line.ensures.1),
+)

@@ -63,10 +63,10 @@ member_line-next-requires c = omega (arith, kept c.loop-k.invariant.2, c.require
 
 pub loop-k-preserved : goal.loop-k-preserved
 loop-k-preserved c = (
-      omega arith,
-      omega (arith, c.member_line-next.ensures.1),
-      members-more c.args.w c.args.buf.now c.args.at c.loop-k.k c.order-places.result (omega (arith, long (goal.at.loop-k-preserved c).After-order-places, few (goal.at.loop-k-preserved c).After-order-places)) (held (goal.at.loop-k-preserved c).In-loop-k) (c.requires.1 _ (held (goal.at.loop-k-preserved c).In-loop-k)) c.loop-k.invariant.2 c.member_line-next.ensures.0,
-    )
+  omega arith,
+  omega (arith, c.member_line-next.ensures.1),
+  members-more c.args.w c.args.buf.now c.args.at c.loop-k.k c.order-places.result (omega (arith, long (goal.at.loop-k-preserved c).After-order-places, few (goal.at.loop-k-preserved c).After-order-places)) (held (goal.at.loop-k-preserved c).In-loop-k) (c.requires.1 _ (held (goal.at.loop-k-preserved c).In-loop-k)) c.loop-k.invariant.2 c.member_line-next.ensures.0,
+)
 
 pub shape_of-buf : goal.shape_of-buf
 shape_of-buf c = kept c.loop-k.invariant.2
