@@ -200,13 +200,12 @@ fn before_number(text: &[u8], n: usize) -> usize
 pub fn fail(rt: HostRuntime, what: &[u8], why: &Error) {
     let mut words = Cursor::new([0u8; 256]);
     let _ = write!(words, "{why}");
-    let n = words.position() as usize;
+    let position = words.position() as usize;
+    let n = if position < 256 { position } else { 256 };
     let text = words.into_inner();
-    if n <= 256 {
-        let end = before_number(&text, n);
-        complain(rt, what);
-        complain(rt, b": ");
-        complain(rt, &text[..end]);
-        complain(rt, b"\n");
-    }
+    let end = before_number(&text, n);
+    complain(rt, what);
+    complain(rt, b": ");
+    complain(rt, &text[..end]);
+    complain(rt, b"\n");
 }
