@@ -1,4 +1,4 @@
-/* The guard for a member's own key, as a library: rt staticlib guard writes target/staticlib/libguard.a.
+/* The guard for a member's own key, as a library: `.ci/build guard` writes target/staticlib/libguard.a.
  *
  * Whoever keeps a key keeps a record for it, and puts the heights of each vote to the guard before it signs. The
  * vote may be signed where the answer is 0. docs/GUARD.md says when to write the record to disk. */
