@@ -8,15 +8,15 @@ use lib.ListN.{length, drop}
 use Rattle.model.specs.Answer.{answer, row}
 use Rattle.model.specs.Buffer.{write_text, buffer_after, Written}
 use Rattle.model.specs.declared.Refusal.TheVariants.{BufferTooShort}
-use Rattle.model.specs.declared.WriteAnswer.TheVariants.{Length, Refused}
+use Rattle.std.specs.Prelude.{Ok, Err}
 
 module _ (text before : List ℕ) where
-  pub too_short : length before < length text → Written text before (Refused BufferTooShort) before
+  pub too_short : length before < length text → Written text before (Err BufferTooShort) before
   unfolding row write_text buffer_after
   too_short h = record { answered = rw (lt-ltb _ _ h); buffer = rw (lt-ltb _ _ h) }
 
   pub all-written : {n : ℕ} {after : List ℕ} → n ≡ length text → n ≤ length before → after ≡ text ++ drop n before
-      → Written text before (Length n) after
+      → Written text before (Ok n) after
   unfolding row write_text buffer_after
   all-written {n} e h whole =
       let fits : length text ≤ length before = omega arith in

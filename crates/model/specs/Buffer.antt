@@ -1,9 +1,8 @@
 -- A text into a lent buffer: our list of charges, and the board paper.
-use Rattle.std.specs.Prelude.{ℕ, ◌≡◌, List, ◌++◌, length, drop, ltb}
+use Rattle.std.specs.Prelude.{ℕ, ◌≡◌, List, ◌++◌, length, drop, ltb, Result}
 use Rattle.model.specs.Answer.{Answer, refused, answer, row}
-use Rattle.model.specs.Refusals.{refusal_number}
-use Rattle.model.specs.declared.WriteAnswer.{WriteAnswer}
-use Rattle.model.specs.declared.WriteAnswer.TheVariants.{Length, Refused}
+use Rattle.model.specs.Refusals.{answer_of}
+use Rattle.model.specs.declared.Refusal.{Refusal}
 
 -- the text's length, or 60 where the buffer is shorter
 unfoldable pub write_text : (text buffer : List ℕ) → Answer ℕ
@@ -15,11 +14,10 @@ buffer_after text buffer (refused n) = buffer
 buffer_after text buffer (answer n) = text ++ drop n buffer
 
 -- what a call says that writes a text
-abbrev pub write_answer_of : WriteAnswer → Answer ℕ
-write_answer_of (Length n) = answer n
-write_answer_of (Refused r) = refused (refusal_number r)
+abbrev pub write_answer_of : Result ℕ Refusal → Answer ℕ
+write_answer_of r = answer_of (λ n. n) r
 
 -- the text is written, or refused by row 60: the answer, and the buffer afterwards
-pub record Written (text before : List ℕ) (r : WriteAnswer) (after : List ℕ) : Type 0 where
+pub record Written (text before : List ℕ) (r : Result ℕ Refusal) (after : List ℕ) : Type 0 where
   pub answered : write_answer_of r ≡ write_text text before
   pub buffer : after ≡ buffer_after text before (write_text text before)

@@ -15,7 +15,7 @@ use Rattle.model.specs.declared.Refusal.{Refusal}
 use Rattle.state.specs.Reading.{IsBeginning, begin_with}
 use Rattle.state.specs.State.{empty_witness}
 use Rattle.state.specs.declared.Witness.{Witness}
-use Rattle.state.specs.declared.Start.TheVariants.{Begun, Refused}
+use Rattle.std.specs.Prelude.{Ok, Err}
 
 and_three : (a b c : Bool) → (a && b && c) ≡ (a && (b && (c && true)))
 and_three true true true = refl
@@ -40,10 +40,10 @@ unfolding header
 header-rows log e1 e2 e3 = rw (e1, e2, e3)
 
 module _ (w : Witness) {name : List ℕ} {h : Answer (List ℕ)} where
-  pub refused-beginning : {r : Refusal} → refused (refusal_number r) ≡ h → IsBeginning w name h (record { outcome = Refused r; witness = w })
+  pub refused-beginning : {r : Refusal} → refused (refusal_number r) ≡ h → IsBeginning w name h (record { outcome = Err r; witness = w })
   unfolding begin_with
   refused-beginning e = record { outcome = e; witness = ap (begin_with w) e }
 
-  pub right-beginning : {v : Witness} → v ≡ empty_witness name → answer name ≡ h → IsBeginning w name h (record { outcome = Begun; witness = v })
+  pub right-beginning : {v : Witness} → v ≡ empty_witness name → answer name ≡ h → IsBeginning w name h (record { outcome = Ok tt; witness = v })
   unfolding begin_with
   right-beginning p e = record { outcome = e; witness = p ∙ ap (begin_with w) e }

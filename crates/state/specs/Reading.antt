@@ -1,18 +1,17 @@
 -- What a reading gives back: the outcome in document 01's numbers, with the rows of a bundle's votes beside it, the
 -- offset to go on from, and the witness.
-use Rattle.std.specs.Prelude.{ℕ, ◌-◌, ◌≡◌, List, [], ◌++◌, map, length, replicate}
+use Rattle.std.specs.Prelude.{ℕ, ◌-◌, ◌≡◌, List, [], ◌++◌, map, length, replicate, Result}
 use Rattle.model.specs.Answer.{Answer, refused, answer, row_of}
 use Rattle.model.specs.Change.{Told, nothing_left, taken, bundled, Decision}
 use Rattle.model.specs.Limits.{member_limit}
-use Rattle.model.specs.Refusals.{refusal_number}
+use Rattle.model.specs.Refusals.{answer_of}
+use Rattle.model.specs.declared.Refusal.{Refusal}
 use Rattle.state.specs.State.{stored, empty_witness}
 use Rattle.state.specs.declared.Witness.{Witness}
 use Rattle.state.specs.declared.Reading.{Reading}
 use Rattle.state.specs.declared.Beginning.{Beginning}
-use Rattle.state.specs.declared.Start.{Start}
-use Rattle.state.specs.declared.Start.TheVariants.{Begun, Refused as RefusedHeader}
-use Rattle.state.specs.declared.Outcome.{Outcome}
-use Rattle.state.specs.declared.Outcome.TheVariants.{Nothing, Taken, Bundled, Refused}
+use Rattle.state.specs.declared.Passed.{Passed}
+use Rattle.state.specs.declared.Passed.TheVariants.{Nothing, Taken, Bundled}
 
 -- what an outcome says of what is told: of a bundle it says how many votes it has
 pub data Brief : Type 0 where
@@ -20,11 +19,13 @@ pub data Brief : Type 0 where
   one_taken : Brief
   many_votes : ℕ → Brief
 
-abbrev pub outcome_of : Outcome → Answer Brief
-outcome_of Nothing = answer none_left
-outcome_of Taken = answer one_taken
-outcome_of (Bundled n) = answer (many_votes n)
-outcome_of (Refused r) = refused (refusal_number r)
+abbrev pub brief_of : Passed → Brief
+brief_of Nothing = none_left
+brief_of Taken = one_taken
+brief_of (Bundled n) = many_votes n
+
+abbrev pub outcome_of : Result Passed Refusal → Answer Brief
+outcome_of o = answer_of brief_of o
 
 unfoldable pub brief : Answer Told → Answer Brief
 brief (refused n) = refused n
@@ -52,9 +53,8 @@ pub record IsReading (w : Witness) (d : Decision) (after : ℕ) (r : Reading) : 
 
 -- a header that is refused leaves the witness handed in; a right one begins an empty witness with its root's name
 
-abbrev pub start_of : List ℕ → Start → Answer (List ℕ)
-start_of name Begun = answer name
-start_of name (RefusedHeader r) = refused (refusal_number r)
+abbrev pub start_of : List ℕ → Result (Unit {0}) Refusal → Answer (List ℕ)
+start_of name r = answer_of (λ u. name) r
 
 unfoldable pub begin_with : Witness → Answer (List ℕ) → Witness
 begin_with w (refused n) = w

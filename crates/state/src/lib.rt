@@ -50,15 +50,17 @@ pub struct Counts {
     pub votes: usize,
 }
 
-// What reading a record comes to; of a bundle that is not refused whole, how many bits were set. What each of these
-// votes came to stands beside it.
-#[derive(Clone, Copy)]
-pub enum Outcome {
+// What reading came to where nothing is refused: nothing was left; a record that is no bundle was taken; of a bundle,
+// how many bits were set. What each of these votes came to stands beside it.
+#[derive(Clone, Copy, Debug, PartialEq, Eq)]
+pub enum Passed {
     Nothing,
     Taken,
     Bundled(usize),
-    Refused(Refusal),
 }
+
+// What reading a record comes to.
+pub type Outcome = Result<Passed, Refusal>;
 
 // The outcome; for each vote of a bundle, in rising member place, the number of the row that refused it or 0 (0 past
 // them, and where the record is no bundle or is refused whole); the offset to go on from; and the witness as it is
@@ -108,17 +110,10 @@ fn empty(log: &[u8]) -> Witness
     }
 }
 
-// What reading a header comes to.
-#[derive(Clone, Copy)]
-pub enum Start {
-    Begun,
-    Refused(Refusal),
-}
-
-// The outcome, and the witness: the empty one, or the one handed in.
+// What reading a header comes to, and the witness: the empty one, or the one handed in.
 #[derive(Clone, Copy)]
 pub struct Beginning {
-    pub outcome: Start,
+    pub outcome: Result<(), Refusal>,
     pub witness: Witness,
 }
 
@@ -136,24 +131,24 @@ pub fn begin(w: Witness, log: &[u8]) -> Beginning
 {
     if log.len() < 37 {
         return Beginning {
-            outcome: Start::Refused(Refusal::LogTooShort),
+            outcome: Err(Refusal::LogTooShort),
             witness: w,
         };
     }
     if !has_mark(log) {
         return Beginning {
-            outcome: Start::Refused(Refusal::LogMark),
+            outcome: Err(Refusal::LogMark),
             witness: w,
         };
     }
     if wire::be16(log, 3) != 1 {
         return Beginning {
-            outcome: Start::Refused(Refusal::LogVersion),
+            outcome: Err(Refusal::LogVersion),
             witness: w,
         };
     }
     Beginning {
-        outcome: Start::Begun,
+        outcome: Ok(()),
         witness: empty(log),
     }
 }
