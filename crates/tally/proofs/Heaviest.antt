@@ -60,7 +60,7 @@ module _ (bonds : List ℕ) (members : ℕ) (marks : List Bool) (tally : ℕ →
       (omega (arith, nobody_weighs bonds members nobody refl refl))))
 
 module _ {w : Witness} {b : Ballots} (r : Ready w b) (t : ℕ) (tally : ℕ → Voters) (h : t < 512)
-    (all : Tallied b.who b.from b.next (get_or b.head t 0) tally)
+    (all : Tallied b.who w.sources b.chains.next (get_or b.chains.head t 0) tally)
     (marks : List Bool) (marked : (s : ℕ) → s < t → get_or marks s false ≡ justified? (model_of w) s) where
   abbrev weight : Voters → ℕ
   weight v = weight_of w.bonds w.member_count v
