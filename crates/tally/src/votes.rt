@@ -18,7 +18,7 @@ pub fn member_places(ids: &[u16], voters: &[u16]) -> [u16; MAX_VOTES]
 {
     let mut places = [0u16; MAX_VOTES];
     for (k, voter) in voters.iter().enumerate() {
-        places[k] = tables::find_id(ids, ids.len(), *voter) as u16;
+        places[k] = tables::find_id(ids, *voter).unwrap_or(ids.len()) as u16;
     }
     places
 }

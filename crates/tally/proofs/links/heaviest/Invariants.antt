@@ -6,4 +6,4 @@ use Rattle.tally.specs.Weights.{IsHeaviest}
 use Rattle.tally.proofs.links.heaviest.Given as goal
 
 abbrev pub invariant-loop-s : goal.invariant-loop-s
-invariant-loop-s l = IsHeaviest l.bonds (length l.bonds) l.justified (voters_at l.voters) l.s l.best
+invariant-loop-s l = IsHeaviest l.bonds (length l.bonds) l.marks (voters_at l.voters) l.s l.best

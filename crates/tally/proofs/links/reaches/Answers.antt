@@ -5,7 +5,7 @@ use Rattle.model.proofs.Lists.{found_below, both}
 use Rattle.search.proofs.Below.{any_none, any-more}
 use Rattle.tally.proofs.links.reaches.Invariants.{leads}
 use Rattle.tally.proofs.links.reaches.Goals as goal
-use Rattle.tally.proofs.links.reaches.Goals.{else-justified-s-via-then-justified-s+else-carries, else-justified-s-via-else-justified-s}
+use Rattle.tally.proofs.links.reaches.Goals.{else-marks-s-via-then-marks-s+else-carries, else-marks-s-via-else-marks-s}
 
 pub loop-s-init : goal.loop-s-init
 loop-s-init c = any_none false _
@@ -14,17 +14,17 @@ pub returns-then-carries : goal.returns-then-carries
 returns-then-carries c =
     let a = c.args in
     sym
-    (found_below (length a.voters.now) (leads a.justified.now a.bonds.now a.bar a.voters.now) c.loop-s.s c.loop-s-test.true
-    (both c.if-justified-s.true (sym c.carries.ensures ∙ c.if-carries.true)))
+    (found_below (length a.voters.now) (leads a.marks.now a.bonds.now a.bar a.voters.now) c.loop-s.s c.loop-s-test.true
+    (both c.if-marks-s.true (sym c.carries.ensures ∙ c.if-carries.true)))
 
 -- a source passed does not lead on: it is not justified, or its link is not carried
 pub loop-s-preserved : goal.loop-s-preserved
 loop-s-preserved c =
     let a = c.args in
-    let fails : leads a.justified.now a.bonds.now a.bar a.voters.now c.loop-s.s ≡ false =
-    elim c.else-justified-s.branch [
-      | else-justified-s-via-then-justified-s+else-carries w ↦ ap₂ ◌&&◌ w.if-justified-s.true
+    let fails : leads a.marks.now a.bonds.now a.bar a.voters.now c.loop-s.s ≡ false =
+    elim c.else-marks-s.branch [
+      | else-marks-s-via-then-marks-s+else-carries w ↦ ap₂ ◌&&◌ w.if-marks-s.true
           (sym w.carries.ensures ∙ w.if-carries.false)
-      | else-justified-s-via-else-justified-s w ↦ ap₂ ◌&&◌ w.if-justified-s.false refl
+      | else-marks-s-via-else-marks-s w ↦ ap₂ ◌&&◌ w.if-marks-s.false refl
     ] in
     sym fails ∙ any-more false _ _ c.loop-s.invariant
