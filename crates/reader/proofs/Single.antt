@@ -15,7 +15,9 @@ use Rattle.model.specs.Model.{Model}
 use Rattle.model.proofs.Log.{decode_elim}
 use Rattle.state.specs.Reading.{outcome_of, brief, rows_of_votes, padded, IsReading}
 use Rattle.state.specs.State.{model_of}
-use Rattle.state.specs.declared.Outcome.{Outcome}
+use Rattle.std.specs.Prelude.{Result}
+use Rattle.model.specs.declared.Refusal.{Refusal}
+use Rattle.state.specs.declared.Passed.{Passed}
 use Rattle.state.specs.declared.Witness.{Witness}
 use Rattle.entries.specs.Entries.{votes_in, last_rows}
 use Rattle.reader.specs.Many.{Ended, Many, read_many, last_told, end_of, ended_told, IsBatch}
@@ -48,7 +50,7 @@ module _ (room : ℕ) (w : Witness) (log : List ℕ) (at : ℕ) {before after : 
   d = decide (model_of w) s
 
   -- what ended it is told; and where nothing did, the record was passed and is the last
-  pub one-reading : (o : Outcome) → outcome_of o ≡ ended_told (end_of r.end) (outcome_of r.last)
+  pub one-reading : (o : Result Passed Refusal) → outcome_of o ≡ ended_told (end_of r.end) (outcome_of r.last)
       → IsReading w d (at + record_length s)
       (record { outcome = o; rows = padded (last_rows (votes_in r.last) r.used after); next = r.next; witness = r.witness })
   unfolding read_many last_told rows_of_votes
