@@ -15,7 +15,8 @@ use Rattle.model.specs.Model.{Model}
 use Rattle.model.proofs.Log.{decode_elim}
 use Rattle.state.specs.Reading.{outcome_of, brief, rows_of_votes, padded, IsReading}
 use Rattle.state.specs.State.{model_of}
-use Rattle.std.specs.Prelude.{Result}
+use Rattle.std.specs.Prelude.{Option, None, Some, Result}
+use Rattle.std.specs.Option.{unwrap_or}
 use Rattle.model.specs.declared.Refusal.{Refusal}
 use Rattle.state.specs.declared.Passed.{Passed}
 use Rattle.state.specs.declared.Witness.{Witness}
@@ -41,6 +42,12 @@ no-votes m s =
       bundle = λ _ e. absurd (omega arith);
       quorum = λ _ e. absurd (omega arith);
     })
+
+-- what ended a reading, or else the last record
+pub ended-outcome : (e : Option (Result Passed Refusal)) (last : Result Passed Refusal)
+    → outcome_of (unwrap_or e last) ≡ ended_told (end_of e) (outcome_of last)
+ended-outcome None last = refl
+ended-outcome (Some o) last = refl
 
 module _ (room : ℕ) (w : Witness) (log : List ℕ) (at : ℕ) {before after : List ℕ} {r : Batch} (free : 128 ≤ room) (is : IsBatch (read_many 1 room w log at) before r after) where
   abbrev s : List ℕ
