@@ -3,7 +3,7 @@
 // scan that looks at one word of each goes over to the next word at every name that has that word and is another.
 #![tactic(auto)]
 
-ghost use Rattle.std.specs.Prelude.{◌≡◌, false, ℕ, ◌+◌, ◌*◌, ◌≤◌, ◌<◌, length};
+ghost use Rattle.std.specs.Prelude.{◌≡◌, false, ℕ, ◌+◌, ◌*◌, ◌≤◌, ◌<◌, length, MatchOption};
 ghost use Rattle.model.specs.Bytes.{part};
 ghost use Rattle.model.specs.Limits.{checkpoint_limit};
 ghost use Rattle.model.specs.Lists.{first_index, pair_below, same_bytes};
@@ -47,22 +47,24 @@ fn next_alike(names: &[u8], count: usize, from: usize, s: &[u8], at: usize, d: u
     i
 }
 
-// The index of the first of the `count` names that is the 32 bytes of s at `at`; `count` where none is. Of the four
-// words of a name the last is looked at first.
-pub fn find_name(names: &[u8], count: usize, s: &[u8], at: usize) -> usize
+// The index of the first of the `count` names that is the 32 bytes of s at `at`. Of the four words of a name the last
+// is looked at first.
+pub fn find_name(names: &[u8], count: usize, s: &[u8], at: usize) -> Option<usize>
     requires { (32 * count ≤ length names.now) × (at + 32 ≤ length s.now) }
-    ensures { result ≡ first_index (λ n. same_bytes n (part at 32 s.now)) (rows count names.now) }
+    ensures { MatchOption result
+        (first_index (λ n. same_bytes n (part at 32 s.now)) (rows count names.now) ≡ count)
+        (λ i. (i ≡ first_index (λ n. same_bytes n (part at 32 s.now)) (rows count names.now)) × (i < count)) }
 {
     let mut which: usize = 3;
     let mut i = next_alike(names, count, 0, s, at, which * 8);
     while i < count {
         if wire::same(names, i * 32, s, at, 32) {
-            return i;
+            return Some(i);
         }
         which = (which + 1) % 4;
         i = next_alike(names, count, i + 1, s, at, which * 8);
     }
-    i
+    None
 }
 
 // The slot of the name at `at`, by all of its bytes. The factors are such that 512 names which are numbered in two of
@@ -85,15 +87,12 @@ pub fn names_twice(names: &[u8], count: usize) -> bool
         (λ i j. same_bytes (part (i * 32) 32 names.now) (part (j * 32) 32 names.now)) }
 {
     let mut marked = [false; SLOTS];
-    let mut hit = false;
-    let mut j: usize = 0;
-    while j < count {
+    for j in 0..count {
         let k = slot(names, j * 32);
-        if marked[k] {
-            hit = hit | (find_name(names, j, names, j * 32) < j);
+        if marked[k] && find_name(names, j, names, j * 32).is_some() {
+            return true;
         }
         marked[k] = true;
-        j += 1;
     }
-    hit
+    false
 }

@@ -3,3 +3,4 @@ pub mod Steps
 pub mod Ancestry
 pub mod Sound
 pub mod Keys
+pub mod Taken

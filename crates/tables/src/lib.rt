@@ -2,24 +2,17 @@
 // what the tables hold as a whole is asked in the modules: of the members, of the tree, of the votes.
 #![tactic(auto)]
 
-ghost use Rattle.std.specs.Prelude.{◌≡◌, ◌≤◌, eqb, length, take};
+ghost use Rattle.std.specs.Prelude.{◌≡◌, ◌<◌, eqb, length, MatchOption};
 ghost use Rattle.model.specs.Lists.{first_index};
 
 pub mod members;
 pub mod tree;
 pub mod votes;
 
-// The index of the first of the `count` ids that is `id`; `count` where none is.
-pub fn find_id(ids: &[u16], count: usize, id: u16) -> usize
-    requires { count ≤ length ids.now }
-    ensures { result ≡ first_index (λ x. eqb x id) (take count ids.now) }
+// The index of the first of the ids that is `id`.
+pub fn find_id(ids: &[u16], id: u16) -> Option<usize>
+    ensures { MatchOption result (first_index (λ x. eqb x id) ids.now ≡ length ids.now)
+        (λ i. (i ≡ first_index (λ x. eqb x id) ids.now) × (i < length ids.now)) }
 {
-    let mut i: usize = 0;
-    while i < count {
-        if ids[i] == id {
-            return i;
-        }
-        i += 1;
-    }
-    i
+    ids.iter().position(|&x| x == id)
 }

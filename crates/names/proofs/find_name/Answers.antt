@@ -1,5 +1,6 @@
 use Prim.Native.Nat.{◌+◌}
 use native.Mathlib.Omega.{arith}
+use native.Mathlib.Nat.{le_antisymm}
 use mathlib.Core.Path.{sym, ◌∙◌}
 use Rattle.search.proofs.Search.{passed_none, passed-more, found_here, found_none}
 use Rattle.names.proofs.Rows.{rows-length, rows_at}
@@ -17,7 +18,7 @@ pub returns-then-same : goal.returns-then-same
 returns-then-same c =
     let turn = c.before.before in
     let same = sym c.same.ensures ∙ c.if-same.true in
-    found_here _ (rows_at _ _ _ turn.loop-i-test.true) same turn.loop-i.invariant.2
+    (found_here _ (rows_at _ _ _ turn.loop-i-test.true) same turn.loop-i.invariant.2, turn.loop-i-test.true)
 
 pub loop-i-smaller : goal.loop-i-smaller
 loop-i-smaller c = omega (arith, c.next_alike-i-in-loop-i.ensures.0)
@@ -34,4 +35,6 @@ loop-i-preserved c =
     (omega arith, so.1, on (passed-more _ (rows_at _ _ _ turn.loop-i-test.true) not_same l.invariant.2))
 
 pub returns : goal.returns
-returns c = found_none _ _ (rows-length _ _) c.loop-i-test.false c.loop-i.invariant.2
+returns c =
+    sym (found_none _ _ (rows-length _ _) c.loop-i-test.false c.loop-i.invariant.2)
+    ∙ le_antisymm c.loop-i.invariant.1 c.loop-i-test.false

@@ -1,6 +1,5 @@
 -- `tables::tree::tree_sound` meets its contract. The loop's invariant: every checkpoint passed takes a sound step.
 -- Assumes nothing.
-use Prim.Native.Nat.{◌<◌, ◌-◌}
 use mathlib.Core.Path.{◌≡◌}
 use mathlib.Core.Bool.{true}
 use Rattle.model.specs.Lists.{all_below}
@@ -8,7 +7,4 @@ use Rattle.tables.specs.Places.{is_step}
 use Rattle.tables.proofs.tree.tree_sound.Given as goal
 
 abbrev pub invariant-loop-i : goal.invariant-loop-i
-invariant-loop-i l = (0 < l.i) × (true ≡ all_below l.i (λ k. is_step l.parents l.heights k))
-
-abbrev pub decreases-loop-i : goal.decreases-loop-i
-decreases-loop-i l = l.count - l.i
+invariant-loop-i l = true ≡ all_below l.i (λ k. is_step l.parents l.heights k)

@@ -2,13 +2,11 @@
 use Rattle.tables.proofs.Sound.{no_target, with_target}
 use Rattle.tables.proofs.votes.vote_sound.Goals as goal
 
-pub returns-then-checkpoints-target : goal.returns-then-checkpoints-target
-returns-then-checkpoints-target c =
-    let a = c.args in
-    no_target a.members a.ids.now a.checkpoints a.parents a.id a.s.0 a.t.0 c.if-checkpoints-target.true
+pub returns-then-parents-target : goal.returns-then-parents-target
+returns-then-parents-target c =
+    no_target c.args.ids.now c.args.parents.now c.args.id c.args.s.0 c.args.t.0 c.if-parents-target.true
 
 pub returns : goal.returns
 returns c =
-    let held = c.before.before in
-    let a = held.args in
-    with_target a.members a.ids.now a.checkpoints a.parents a.id a.s.0 a.t.0 held.requires.0 held.if-checkpoints-target.false c.id_held.ensures c.is_ancestor.ensures
+    with_target c.args.ids.now c.args.parents.now c.args.id c.args.s.0 c.args.t.0 c.if-parents-target.false c.id_held.ensures
+    (c.is_ancestor.ensures _ c.if-parents-target.false c.requires)
