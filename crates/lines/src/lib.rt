@@ -8,7 +8,6 @@ ghost use Rattle.model.specs.Report.{decimal, refused_line, stopped_line, checkp
 ghost use Rattle.text.specs.Put.{Put};
 
 use model::{Height, Place, Refusal, Status};
-use refusals::refusal_number;
 use text::{put, put_number};
 
 // Two labels, each with its number after it: what stands before a line's ending.
@@ -29,8 +28,7 @@ pub fn refused_line(buf: &mut [u8], at: usize, k: u64, number: u8) -> usize
     requires { at + 64 ≤ length buf.old }
     ensures { Put buf.old at (refused_line number k) buf.new result × (result ≤ at + 64) }
 {
-    let number = number as u64;
-    let next = pair(buf, at, b"refused ", k, b" number ", number);
+    let next = pair(buf, at, b"refused ", k, b" number ", u64::from(number));
     put(buf, next, b"\n")
 }
 
@@ -39,8 +37,8 @@ pub fn stopped_line(buf: &mut [u8], at: usize, r: Refusal, k: u64) -> usize
     requires { at + 64 ≤ length buf.old }
     ensures { Put buf.old at (stopped_line (refusal_number r) k) buf.new result × (result ≤ at + 64) }
 {
-    let number = refusal_number(r) as u64;
-    let next = pair(buf, at, b"stopped ", number, b" record ", k);
+    let number = u8::from(r);
+    let next = pair(buf, at, b"stopped ", u64::from(number), b" record ", k);
     put(buf, next, b"\n")
 }
 
@@ -49,14 +47,20 @@ pub fn checkpoint_line(buf: &mut [u8], at: usize, p: Place, h: Height, s: Status
     requires { at + 80 ≤ length buf.old }
     ensures { Put buf.old at (checkpoint_text p.0 h.0 s) buf.new result × (result ≤ at + 80) }
 {
-    let place = p.0 as u64;
-    let height = h.0 as u64;
-    let next = pair(buf, at, b"checkpoint ", place, b" height ", height);
-    match s {
-        Status::Plain => put(buf, next, b" plain\n"),
-        Status::Justified => put(buf, next, b" justified\n"),
-        Status::Final => put(buf, next, b" final\n"),
-    }
+    let next = pair(
+        buf,
+        at,
+        b"checkpoint ",
+        u64::from(p.0),
+        b" height ",
+        u64::from(h.0),
+    );
+    let ending: &[u8] = match s {
+        Status::Plain => b" plain\n",
+        Status::Justified => b" justified\n",
+        Status::Final => b" final\n",
+    };
+    put(buf, next, ending)
 }
 
 // The line of a member whose votes break no rule.
@@ -64,7 +68,7 @@ pub fn clear_line(buf: &mut [u8], at: usize, id: u16, bond: u64) -> usize
     requires { at + 112 ≤ length buf.old }
     ensures { Put buf.old at (member_text id bond clear) buf.new result × (result ≤ at + 112) }
 {
-    let next = pair(buf, at, b"member ", id as u64, b" bond ", bond);
+    let next = pair(buf, at, b"member ", u64::from(id), b" bond ", bond);
     put(buf, next, b" clear\n")
 }
 
@@ -73,8 +77,8 @@ pub fn broken_line(buf: &mut [u8], at: usize, id: u16, bond: u64, i: u16, j: u16
     requires { at + 112 ≤ length buf.old }
     ensures { Put buf.old at (member_text id bond (broken i j)) buf.new result × (result ≤ at + 112) }
 {
-    let one = pair(buf, at, b"member ", id as u64, b" bond ", bond);
-    let two = pair(buf, one, b" broken ", i as u64, b" ", j as u64);
+    let one = pair(buf, at, b"member ", u64::from(id), b" bond ", bond);
+    let two = pair(buf, one, b" broken ", u64::from(i), b" ", u64::from(j));
     put(buf, two, b"\n")
 }
 
@@ -84,8 +88,10 @@ pub fn total_line(buf: &mut [u8], at: usize, total: u64, named: u64, conflict: b
     ensures { Put buf.old at (total_text total named conflict) buf.new result × (result ≤ at + 80) }
 {
     let next = pair(buf, at, b"total ", total, b" named ", named);
-    if conflict {
-        return put(buf, next, b" conflict yes\n");
-    }
-    put(buf, next, b" conflict no\n")
+    let ending: &[u8] = if conflict {
+        b" conflict yes\n"
+    } else {
+        b" conflict no\n"
+    };
+    put(buf, next, ending)
 }

@@ -9,125 +9,107 @@ ghost use Rattle.search.specs.Chains.{Chain, Indexed};
 
 use model::MAX_VOTES;
 
+const SLOTS: usize = 4093;
+
+// Whoever chooses the numbers can make a chain long: after so many steps all numbers are looked at, which many
+// comparisons at once make the faster way then.
+const MAX_STEPS: usize = 64;
+
 // Numbers in chains: themselves, the last of each slot, and of each the last before it that has its slot. A number
-// stands there by its index plus 1, and 0 ends a chain.
+// stands there by its index plus 1, and 0 ends a chain. How many there are is kept by the owner of the numbers.
 #[derive(Clone, Copy)]
 pub struct Links {
     pub numbers: [u64; MAX_VOTES],
-    pub heads: [u16; 4093],
+    pub heads: [u16; SLOTS],
     pub nexts: [u16; MAX_VOTES],
 }
 
-// Takes x in as the k-th number: it stands first in its chain.
-pub fn put_first(
-    numbers: &mut [u64; MAX_VOTES],
-    heads: &mut [u16; 4093],
-    nexts: &mut [u16; MAX_VOTES],
-    k: usize,
-    x: u64,
-)
-    requires { (k < vote_limit) × Indexed k numbers.old heads.old nexts.old }
-    ensures { (numbers.new ≡ set numbers.old k x)
-        × Indexed (k + 1) numbers.new heads.new nexts.new }
-{
-    let slot = (x % 4093) as usize;
-    numbers[k] = x;
-    nexts[k] = heads[slot];
-    heads[slot] = (k + 1) as u16;
-}
-
-// Puts the first `count` numbers into chains.
-pub fn link(numbers: &[u64], count: usize) -> Links
-    requires { (count ≤ length numbers.now) × (count ≤ vote_limit) }
-    ensures { Indexed count result.numbers result.heads result.nexts
-        × ((k : ℕ) → k < count → get_or result.numbers k 0 ≡ get_or numbers.now k 0) }
-{
-    let mut held = [0u64; MAX_VOTES];
-    let mut heads = [0u16; 4093];
-    let mut nexts = [0u16; MAX_VOTES];
-    let mut k: usize = 0;
-    while k < count {
-        put_first(&mut held, &mut heads, &mut nexts, k, numbers[k]);
-        k += 1;
-    }
-    Links {
-        numbers: held,
-        heads,
-        nexts,
-    }
-}
-
-// Whether x is among the first `count` numbers. Every one is looked at: many are then compared at once.
-fn number_held(numbers: &[u64], count: usize, x: u64) -> bool
-    requires { count ≤ length numbers.now }
-    ensures { result ≡ any_below count (λ k. eqb (get_or numbers.now k 0) x) }
+// Whether x is among the numbers. Every one is looked at: many are then compared at once.
+fn is_held(numbers: &[u64], x: u64) -> bool
+    ensures { result ≡ any_below (length numbers.now) (λ k. eqb (get_or numbers.now k 0) x) }
 {
     let mut hit = false;
-    let mut k: usize = 0;
-    while k < count {
-        hit = hit | (numbers[k] == x);
-        k += 1;
+    for n in numbers {
+        hit |= *n == x;
     }
     hit
 }
 
-// Whether x is among the first `count` numbers, of which all that could be x are in the chain that begins with `from`.
-// Whoever chooses the numbers can make a chain long: after 64 steps all numbers are looked at, which many comparisons
-// at once make the faster way then.
-fn in_chain<'a>(numbers: &'a [u64], nexts: &'a [u16], from: u16, count: usize, x: u64) -> bool
-    requires { (count ≤ length numbers.now)
-        × (count ≤ length nexts.now)
-        × (from ≤ count)
-        × ((k : ℕ) → k < count → get_or nexts.now k 0 ≤ k) }
-    ensures { (on : ℕ → Bool)
-        → Chain on count nexts.now from
-        → any_below count (λ k. on k && eqb (get_or numbers.now k 0) x) ≡ any_below count
-        (λ k. eqb (get_or numbers.now k 0) x)
-        → result ≡ any_below count (λ k. eqb (get_or numbers.now k 0) x) }
-{
-    let mut hit = false;
-    let mut at = from;
-    let mut steps: usize = 0;
-    while 0 < at {
-        if 64 <= steps {
-            return number_held(numbers, count, x);
+impl Links {
+    // The numbers in chains.
+    pub fn of(numbers: &[u64]) -> Links
+        requires { length numbers.now ≤ vote_limit }
+        ensures indexed { Indexed (length numbers.now) result.numbers result.heads result.nexts }
+        ensures held { (k : ℕ) → k < length numbers.now → get_or result.numbers k 0 ≡ get_or numbers.now k 0 }
+    {
+        let mut links = Links {
+            numbers: [0; MAX_VOTES],
+            heads: [0; SLOTS],
+            nexts: [0; MAX_VOTES],
+        };
+        for (k, x) in numbers.iter().enumerate() {
+            links.put_first(k, *x);
         }
-        let k = (at - 1) as usize;
-        hit = hit | (numbers[k] == x);
-        at = nexts[k];
-        steps += 1;
+        links
     }
-    hit
-}
 
-// Whether x is among the first `count` numbers, which are in chains: it is looked for in its own.
-pub fn number_linked<'a>(
-    numbers: &'a [u64],
-    heads: &'a [u16],
-    nexts: &'a [u16],
-    count: usize,
-    x: u64,
-) -> bool
-    requires { (count ≤ vote_limit) × Indexed count numbers.now heads.now nexts.now }
-    ensures { result ≡ any_below count (λ k. eqb (get_or numbers.now k 0) x) }
-{
-    let slot = (x % 4093) as usize;
-    in_chain(numbers, nexts, heads[slot], count, x)
+    // Takes x in as the k-th number: it stands first in its chain.
+    pub fn put_first(&mut self, k: usize, x: u64)
+        requires { (k < vote_limit) × Indexed k self.old.numbers self.old.heads self.old.nexts }
+        ensures { (self.new.numbers ≡ set self.old.numbers k x)
+            × Indexed (k + 1) self.new.numbers self.new.heads self.new.nexts }
+    {
+        let slot = (x % SLOTS as u64) as usize;
+        self.numbers[k] = x;
+        self.nexts[k] = self.heads[slot];
+        self.heads[slot] = (k + 1) as u16;
+    }
+
+    // Whether x is among the first `count` numbers: it is looked for in its own chain.
+    pub fn contains(&self, count: usize, x: u64) -> bool
+        requires { (count ≤ vote_limit) × Indexed count self.now.numbers self.now.heads self.now.nexts }
+        ensures { result ≡ any_below count (λ k. eqb (get_or self.now.numbers k 0) x) }
+    {
+        let slot = (x % SLOTS as u64) as usize;
+        self.in_chain(self.heads[slot], count, x)
+    }
+
+    // Whether x is among the first `count` numbers, of which all that could be x are in the chain that begins with
+    // `from`.
+    fn in_chain(&self, from: u16, count: usize, x: u64) -> bool
+        requires { (count ≤ vote_limit)
+            × (from ≤ count)
+            × ((k : ℕ) → k < count → get_or self.now.nexts k 0 ≤ k) }
+        ensures { (on : ℕ → Bool)
+            → Chain on count self.now.nexts from
+            → any_below count (λ k. on k && eqb (get_or self.now.numbers k 0) x) ≡ any_below count
+            (λ k. eqb (get_or self.now.numbers k 0) x)
+            → result ≡ any_below count (λ k. eqb (get_or self.now.numbers k 0) x) }
+    {
+        let mut hit = false;
+        let mut at = from;
+        for _ in 0..MAX_STEPS {
+            if at == 0 {
+                return hit;
+            }
+            let k = usize::from(at - 1);
+            hit |= self.numbers[k] == x;
+            at = self.nexts[k];
+        }
+        is_held(&self.numbers[..count], x)
+    }
 }
 
 // Whether some number stands twice: each is looked for in its chain, among those before it.
-pub fn numbers_twice(numbers: &[u64], count: usize) -> bool
-    requires { (count ≤ length numbers.now) × (count ≤ vote_limit) }
-    ensures { result ≡ pair_below count (λ i j. eqb (get_or numbers.now i 0) (get_or numbers.now j 0)) }
+pub fn numbers_twice(numbers: &[u64]) -> bool
+    requires { length numbers.now ≤ vote_limit }
+    ensures { result
+        ≡ pair_below (length numbers.now) (λ i j. eqb (get_or numbers.now i 0) (get_or numbers.now j 0)) }
 {
-    let links = link(numbers, count);
-    let nexts = links.nexts;
+    let links = Links::of(numbers);
     let mut hit = false;
-    let mut j: usize = 0;
-    while j < count {
-        let from = nexts[j];
-        hit = hit | in_chain(numbers, &nexts, from, j, numbers[j]);
-        j += 1;
+    for (j, x) in numbers.iter().enumerate() {
+        hit |= links.in_chain(links.nexts[j], j, *x);
     }
     hit
 }

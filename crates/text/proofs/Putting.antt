@@ -1,27 +1,13 @@
 -- Texts written one after another into a lent buffer.
-use Prim.Native.Nat.{ℕ, ◌+◌, ◌<◌, ◌≤◌}
+use Prim.Native.Nat.{ℕ, ◌+◌, ◌≤◌}
 use native.Mathlib.Omega.{arith}
 use native.Mathlib.Numerals.{add-one}
 use mathlib.Core.Path.{◌≡◌, sym, ap, ap₂, subst, ◌∙◌}
 use mathlib.Core.List.{List, [], ◌++◌, append_assoc, append-nil}
-use lib.ListN.{length, take, drop, set, get_or, length-append, length-drop, take-append-drop}
-use lib.Seq.{length-take-le, take_all, take_at, drop_at, drop-drop, paste, paste-suc}
+use lib.ListN.{length, take, drop, length-append, length-drop, take-append-drop}
+use lib.Seq.{length-take-le, take_at, drop_at, drop-drop}
 use Rattle.model.specs.Lists.{concat_below}
 use Rattle.text.specs.Put.{Put}
-
--- one more byte of the text
-pub paste_more : (l : List ℕ) (at : ℕ) (text : List ℕ) (i : ℕ) {m : List ℕ} → m ≡ paste l at text i → at + i < length l → i < length text → set m (at + i) (get_or text i 0) ≡ paste l at text (i + 1)
-paste_more l at text i e inside read =
-    ap (λ (x : List ℕ). set x (at + i) (get_or text i 0)) e ∙ paste-suc l at text i 0 inside read ∙ ap (paste l at text) (sym (add-one i))
-
--- all of them
-pub pasted : (l : List ℕ) (at : ℕ) (text : List ℕ) {m : List ℕ} {i : ℕ} → i ≡ length text → at + length text ≤ length l → m ≡ paste l at text i → Put l at text m (at + i)
-pasted l at text {m} {i} whole fits e =
-    record {
-      fits = fits;
-      past = ap (λ (k : ℕ). at + k) whole;
-      left = e ∙ ap (paste l at text) whole ∙ ap (λ (t : List ℕ). take at l ++ t ++ drop (at + length text) l) (take_all (length text) text (omega arith));
-    }
 
 -- no text
 pub none : (l : List ℕ) (at : ℕ) → at ≤ length l → Put l at [] l at

@@ -1,4 +1,5 @@
-// Texts and numbers, as bytes written into a lent buffer.
+// Texts and numbers, as bytes written into a lent buffer, which has room for them: so nothing here can fail, as `write!`
+// into a slice may.
 #![tactic(auto)]
 
 ghost use Rattle.std.specs.Prelude.{◌+◌, ◌≤◌, length, replicate};
@@ -11,12 +12,9 @@ pub fn put(buf: &mut [u8], at: usize, text: &[u8]) -> usize
     requires { at + length text.now ≤ length buf.old }
     ensures { Put buf.old at text.now buf.new result }
 {
-    let mut i: usize = 0;
-    while i < text.len() {
-        buf[at + i] = text[i];
-        i += 1;
-    }
-    at + i
+    let end = at + text.len();
+    buf[at..end].copy_from_slice(text);
+    end
 }
 
 // A number in decimal: at most 20 digits.
@@ -34,12 +32,9 @@ pub fn fill(buf: &mut [u8], at: usize, byte: u8, count: usize) -> usize
     requires { at + count ≤ length buf.old }
     ensures { Put buf.old at (replicate count byte) buf.new result }
 {
-    let mut i: usize = 0;
-    while i < count {
-        buf[at + i] = byte;
-        i += 1;
-    }
-    at + i
+    let end = at + count;
+    buf[at..end].fill(byte);
+    end
 }
 
 // A number in decimal, at the right of so many columns.

@@ -1,4 +1,3 @@
 pub mod Parts
-pub mod Digits
-pub mod Words
+pub mod Numbers
 pub mod Compare

@@ -1,2 +1,3 @@
 -- What the leaves over bytes say, where the model has no word for it.
 pub mod Words
+pub mod Kinds

@@ -1,4 +1,3 @@
--- `lines::broken_line` meets its contract: the ending is the conduct's. Assumes nothing.
 use native.Mathlib.Omega.{arith}
 use mathlib.Core.Path.{refl}
 use Rattle.model.specs.Bytes.{ascii}
@@ -11,6 +10,6 @@ pub returns : goal.returns
 unfolding member_text conduct_text ascii newline
 returns c =
     let a = c.args in (
-      ended conduct_text (ascii " ") newline {s = broken a.i a.j} refl c.pair-one.ensures.0 (next c.pair-two.ensures.0 c.put.ensures),
+      ended conduct_text (ascii " ") newline {s = broken a.i a.j} refl (rw c.from.ensures at c.pair-one.ensures.0) (next (rw (c.from-2.ensures, c.from-3.ensures) at c.pair-two.ensures.0) c.put.ensures),
       omega arith,
     )

@@ -1,21 +1,25 @@
--- `lines::checkpoint_line` meets its contract: the ending is the standing's. Assumes nothing.
 use native.Mathlib.Omega.{arith}
+use mathlib.Core.Path.{◌≡◌, refl, sym, ap, ◌∙◌}
+use mathlib.Core.List.{◌++◌}
+use lib.ListN.{length}
 use Rattle.model.specs.Bytes.{ascii}
 use Rattle.model.specs.Report.{checkpoint_text, status_text, newline}
-use Rattle.text.proofs.Putting.{ended}
+use Rattle.text.proofs.Putting.{spelled, ended}
 use Rattle.lines.proofs.checkpoint_line.Goals as goal
+use Rattle.lines.proofs.checkpoint_line.Goals.{in-Plain, in-Justified, in-Final}
 
-pub returns-in-Plain : goal.returns-in-Plain
+pub returns : goal.returns
 unfolding checkpoint_text status_text ascii newline
-returns-in-Plain c =
-    (ended status_text (ascii " ") newline c.in-Plain.is c.pair-next.ensures.0 c.put.ensures, omega arith)
-
-pub returns-in-Justified : goal.returns-in-Justified
-unfolding checkpoint_text status_text ascii newline
-returns-in-Justified c =
-    (ended status_text (ascii " ") newline c.in-Justified.is c.pair-next.ensures.0 c.put-in-Justified.ensures, omega arith)
-
-pub returns-in-Final : goal.returns-in-Final
-unfolding checkpoint_text status_text ascii newline
-returns-in-Final c =
-    (ended status_text (ascii " ") newline c.in-Final.is c.pair-next.ensures.0 c.put-in-Final.ensures, omega arith)
+returns c =
+    let ending : c.match-s.ending.now ≡ ascii " " ++ status_text c.args.s ++ newline = elim c.match-s.branch [
+      | in-Plain w ↦ ap (λ b. b.now) w.ending-is ∙ ap (λ s. ascii " " ++ status_text s ++ newline) (sym w.in-Plain.is)
+      | in-Justified w ↦ ap (λ b. b.now) w.ending-is ∙ ap (λ s. ascii " " ++ status_text s ++ newline) (sym w.in-Justified.is)
+      | in-Final w ↦ ap (λ b. b.now) w.ending-is ∙ ap (λ s. ascii " " ++ status_text s ++ newline) (sym w.in-Final.is)
+    ] in (
+      ended status_text (ascii " ") newline {s = c.args.s} refl (rw (c.from.ensures, c.from-2.ensures) at c.pair-next.ensures.0) (spelled c.put.ensures ending),
+      elim c.match-s.branch [
+        | in-Plain w ↦ omega (arith, ap (λ b. length b.now) w.ending-is)
+        | in-Justified w ↦ omega (arith, ap (λ b. length b.now) w.ending-is)
+        | in-Final w ↦ omega (arith, ap (λ b. length b.now) w.ending-is)
+      ],
+    )

@@ -1,16 +1,23 @@
--- `lines::total_line` meets its contract: the ending is the answer's. Assumes nothing.
 use native.Mathlib.Omega.{arith}
+use mathlib.Core.Path.{◌≡◌, refl, sym, ap, ◌∙◌}
+use mathlib.Core.List.{◌++◌}
+use lib.ListN.{length}
 use Rattle.model.specs.Bytes.{ascii}
 use Rattle.model.specs.Report.{total_text, yes_no, newline}
-use Rattle.text.proofs.Putting.{ended}
+use Rattle.text.proofs.Putting.{spelled, ended}
 use Rattle.lines.proofs.total_line.Goals as goal
-
-pub returns-then-conflict : goal.returns-then-conflict
-unfolding total_text yes_no ascii newline
-returns-then-conflict c =
-    (ended yes_no (ascii " conflict ") newline c.if-conflict.true c.pair-next.ensures.0 c.put.ensures, omega arith)
+use Rattle.lines.proofs.total_line.Goals.{then-conflict, else-conflict}
 
 pub returns : goal.returns
 unfolding total_text yes_no ascii newline
 returns c =
-    (ended yes_no (ascii " conflict ") newline c.if-conflict.false c.pair-next.ensures.0 c.put-2.ensures, omega arith)
+    let ending : c.if-conflict.ending.now ≡ ascii " conflict " ++ yes_no c.args.conflict ++ newline = elim c.if-conflict.branch [
+      | then-conflict w ↦ ap (λ b. b.now) w.ending-is ∙ ap (λ s. ascii " conflict " ++ yes_no s ++ newline) (sym w.if-conflict.true)
+      | else-conflict w ↦ ap (λ b. b.now) w.ending-is ∙ ap (λ s. ascii " conflict " ++ yes_no s ++ newline) (sym w.if-conflict.false)
+    ] in (
+      ended yes_no (ascii " conflict ") newline {s = c.args.conflict} refl c.pair-next.ensures.0 (spelled c.put.ensures ending),
+      elim c.if-conflict.branch [
+        | then-conflict w ↦ omega (arith, ap (λ b. length b.now) w.ending-is)
+        | else-conflict w ↦ omega (arith, ap (λ b. length b.now) w.ending-is)
+      ],
+    )

@@ -1,41 +1,31 @@
-use Prim.Native.Nat.{ℕ, ◌%◌}
+use Prim.Native.Nat.{◌%◌}
 use native.Mathlib.Omega.{arith}
-use native.Mathlib.Nat.{le_antisymm}
-use mathlib.Core.Path.{ap}
+use mathlib.Core.Path.{ap, ◌∙◌}
+use lib.Dec.{eqb}
 use lib.ListN.{get_or}
-use Rattle.search.specs.Chains.{Linked, slot_of}
+use Rattle.search.specs.Chains.{last_below, slot_of}
 use Rattle.search.proofs.Below.{pair-none, pair-more}
-use Rattle.search.proofs.Chains.{bucketed-same, linked-earlier, linked-chain, same_slot}
+use Rattle.search.proofs.Chains.{linked-earlier, linked-chain, same_slot}
+use Rattle.search.proofs.Pointwise.{any_same}
 use Rattle.search.proofs.numbers_twice.Goals as goal
-use Rattle.search.proofs.numbers_twice.Goals.{After-link-links}
-
--- the chains are by the slots of the numbers lent
-links : (c : After-link-links) → Linked (slot_of c.args.numbers.now) c.args.count c.link-links.result.nexts
-links c = (bucketed-same (λ i h. ap (λ (x : ℕ). x % 4093) (c.link-links.ensures.1 i h)) c.link-links.ensures.0.bucketed).linked
-
-pub link-links-requires : goal.link-links-requires
-link-links-requires c = c.requires
 
 pub loop-j-init : goal.loop-j-init
-loop-j-init c = (omega arith, pair-none _)
+loop-j-init c = pair-none _
 
 pub in_chain-hit-requires : goal.in_chain-hit-requires
 in_chain-hit-requires c =
-    let turn = c.before.before in
-    let linked = links (goal.at.in_chain-hit-requires c).After-link-links in
-    let falls = linked-earlier _ linked in
-    let here = turn.loop-j-test.true in
-    (omega arith, omega (arith, here, linked.long), falls turn.loop-j.j here, λ k h. falls k (omega (arith, h, here)))
+    let falls = linked-earlier _ c.of-links.ensures.indexed.bucketed.linked in
+    let here = c.loop-j-test.true in
+    (omega (arith, c.requires), falls c.loop-j.j here, λ k h. falls k (omega (arith, h, here)))
 
 pub loop-j-preserved : goal.loop-j-preserved
 loop-j-preserved c =
-    let turn = c.before.before.before in
-    let so = turn.loop-j.invariant in
-    let linked = links (goal.at.loop-j-preserved c).After-link-links in
-    let numbers = turn.args.numbers.now in
-    let j = turn.loop-j.j in
-    let chain = linked-chain _ linked (slot_of numbers j) j so.0 (linked.nexts j turn.loop-j-test.true) in
-    (omega arith, pair-more _ _ so.1 (c.in_chain-hit.ensures _ chain (same_slot numbers j (get_or numbers j 0))))
-
-pub returns : goal.returns
-returns c = rw (le_antisymm c.loop-j.invariant.0 c.loop-j-test.false) at c.loop-j.invariant.1
+    let linked = c.of-links.ensures.indexed.bucketed.linked in
+    let held = c.of-links.ensures.held in
+    let numbers = c.of-links.result.numbers in
+    let j = c.loop-j.j in
+    let x = get_or c.args.numbers.now j 0 in
+    let here = c.loop-j-test.true in
+    let chain = linked-chain _ linked (x % 4093) j (omega (arith, here)) (linked.nexts j here ∙ ap (λ y. last_below j (λ i. eqb (slot_of numbers i) (y % 4093))) (held j here)) in
+    let here = c.in_chain-hit.ensures _ chain (same_slot numbers j x) in
+    pair-more _ _ c.loop-j.invariant (here ∙ any_same j (λ i. eqb (get_or numbers i 0) x) (λ i. eqb (get_or c.args.numbers.now i 0) x) (λ i h. ap (λ y. eqb y x) (held i (omega (arith, h, c.loop-j-test.true)))))
