@@ -4,22 +4,27 @@ ghost use Rattle.model.specs.Answer.{and_then};
 ghost use Rattle.model.specs.Bytes.{field, part};
 ghost use Rattle.model.specs.Decide.{link_between, link_of};
 ghost use Rattle.model.specs.Limits.{checkpoint_limit};
-ghost use Rattle.model.specs.Model.{Model, link};
+ghost use Rattle.model.specs.Model.{Model};
 ghost use Rattle.tables.specs.Places.{height_at, Falling};
 ghost use Rattle.state.specs.Tables.{NamesHeld, HeightsHeld, AncestorsHeld};
-ghost use Rattle.ballots.specs.Ballot.{link_answer_of, Within};
+ghost use Rattle.ballots.specs.Ballot.{link_in, link_answer_of, Within};
 
 use model::{Height, MAX_CHECKPOINTS, Place, Refusal};
 
-// What rows 31 to 34, or the first of them, make of a link: one refuses it; or it is between these places.
-#[derive(Clone, Copy)]
-pub enum LinkAnswer {
-    Refused(Refusal),
-    Between(Place, Place),
+// A link between held checkpoints.
+#[derive(Clone, Copy, Debug, PartialEq, Eq)]
+pub struct Link {
+    pub source: Place,
+    pub target: Place,
 }
 
 // Rows 31 and 32, on the names at `from` and behind it.
-fn find_endpoints<'a>(names: &'a [u8], count: usize, log: &[u8], from: usize) -> LinkAnswer
+fn find_endpoints<'a>(
+    names: &'a [u8],
+    count: usize,
+    log: &[u8],
+    from: usize,
+) -> Result<Link, Refusal>
     requires { (32 * count ≤ length names.now) × (count ≤ checkpoint_limit) × (from + 64 ≤ length log.now) }
     ensures target_height_value { (m : Model) (source_height target_height : ℕ)
         → NamesHeld m names.now count
@@ -29,31 +34,32 @@ fn find_endpoints<'a>(names: &'a [u8], count: usize, log: &[u8], from: usize) ->
 {
     let s = names::find_name(names, count, log, from);
     if count <= s {
-        return LinkAnswer::Refused(Refusal::SourceNotHeld);
+        return Err(Refusal::SourceNotHeld);
     }
     let t = names::find_name(names, count, log, from + 32);
     if count <= t {
-        return LinkAnswer::Refused(Refusal::TargetNotHeld);
+        return Err(Refusal::TargetNotHeld);
     }
-    let source = s as u16;
-    let target = t as u16;
-    LinkAnswer::Between(Place(source), Place(target))
+    Ok(Link {
+        source: Place(s as u16),
+        target: Place(t as u16),
+    })
 }
 
 // Row 33: whether the heights that a link is given with are those of its places.
 fn heights_agree(
     heights: [Height; MAX_CHECKPOINTS],
-    s: Place,
-    t: Place,
+    link: Link,
     source_height: Height,
     target_height: Height,
 ) -> bool
-    requires { (s.0 < checkpoint_limit) × (t.0 < checkpoint_limit) }
-    ensures { result ≡ (eqb source_height.0 (height_at heights s.0) && eqb target_height.0 (height_at heights t.0)) }
+    requires { (link.source.0 < checkpoint_limit) × (link.target.0 < checkpoint_limit) }
+    ensures { result
+        ≡ (eqb source_height.0 (height_at heights link.source.0) && eqb target_height.0 (height_at heights link.target.0)) }
 {
-    let from = heights[s.0 as usize];
-    let to = heights[t.0 as usize];
-    (source_height.0 == from.0) & (target_height.0 == to.0)
+    let from = heights[link.source.0 as usize];
+    let to = heights[link.target.0 as usize];
+    (source_height == from) & (target_height == to)
 }
 
 // Rows 33 and 34, on a link between held places.
@@ -61,24 +67,26 @@ fn check_link(
     count: usize,
     parents: [Place; MAX_CHECKPOINTS],
     heights: [Height; MAX_CHECKPOINTS],
-    s: Place,
-    t: Place,
+    link: Link,
     source_height: Height,
     target_height: Height,
-) -> LinkAnswer
-    requires { (count ≤ checkpoint_limit) × (s.0 < count) × (t.0 < count) × Falling count parents }
+) -> Result<Link, Refusal>
+    requires { (count ≤ checkpoint_limit)
+        × (link.source.0 < count)
+        × (link.target.0 < count)
+        × Falling count parents }
     ensures { (m : Model)
         → HeightsHeld m heights count
         → AncestorsHeld m parents count
-        → link_answer_of result ≡ link_between m (link s.0 t.0) source_height.0 target_height.0 }
+        → link_answer_of result ≡ link_between m (link_in link) source_height.0 target_height.0 }
 {
-    if !heights_agree(heights, s, t, source_height, target_height) {
-        return LinkAnswer::Refused(Refusal::WrongHeight);
+    if !heights_agree(heights, link, source_height, target_height) {
+        return Err(Refusal::WrongHeight);
     }
-    if !tables::tree::is_ancestor(parents, count, s, t) {
-        return LinkAnswer::Refused(Refusal::NotAncestor);
+    if !tables::tree::is_ancestor(parents, count, link.source, link.target) {
+        return Err(Refusal::NotAncestor);
     }
-    LinkAnswer::Between(s, t)
+    Ok(link)
 }
 
 // Rows 31 to 34, on what stands at `from`: two names, then the heights given for them.
@@ -89,7 +97,7 @@ pub fn link_of<'a>(
     count: usize,
     log: &[u8],
     from: usize,
-) -> LinkAnswer
+) -> Result<Link, Refusal>
     requires { (32 * count ≤ length names.now)
         × (count ≤ checkpoint_limit)
         × Falling count parents
@@ -102,12 +110,8 @@ pub fn link_of<'a>(
         link_answer_of result
         ≡ link_of m (part from 32 s) (part (from + 32) 32 s) (field (from + 64) 4 s) (field (from + 68) 4 s) }
 {
-    match find_endpoints(names, count, log, from) {
-        LinkAnswer::Refused(r) => LinkAnswer::Refused(r),
-        LinkAnswer::Between(s, t) => {
-            let source_height = Height(wire::be32(log, from + 64));
-            let target_height = Height(wire::be32(log, from + 68));
-            check_link(count, parents, heights, s, t, source_height, target_height)
-        }
-    }
+    let link = find_endpoints(names, count, log, from)?;
+    let source_height = Height(wire::be32(log, from + 64));
+    let target_height = Height(wire::be32(log, from + 68));
+    check_link(count, parents, heights, link, source_height, target_height)
 }

@@ -8,76 +8,71 @@ ghost use Rattle.model.specs.Limits.{vote_limit};
 ghost use Rattle.model.specs.Model.{Model};
 ghost use Rattle.search.specs.Chains.{Indexed};
 ghost use Rattle.state.specs.Tables.{KeysHeld, Held};
-ghost use Rattle.ballots.specs.Ballot.{ballot_of, link_answer_of, change_of, cast_vote};
+ghost use Rattle.ballots.specs.Ballot.{link_in, vote_in, ballot_of, link_answer_of, change_of, cast_vote};
 ghost use Rattle.ballots.specs.Fit.{Fit};
 
-use crate::links::{LinkAnswer, link_of};
+use crate::links::{Link, link_of};
 use model::{Height, MAX_CHECKPOINTS, MAX_VOTES, Place, Refusal};
 use state::Counts;
 
-// What rows 30 to 36, or the first of them, make of a vote: one refuses it; or a member's vote between places.
-#[derive(Clone, Copy)]
-pub enum Ballot {
-    Refuse(Refusal),
-    Cast(u16, Place, Place),
+// A held member's vote between held checkpoints.
+#[derive(Clone, Copy, Debug, PartialEq, Eq)]
+pub struct Ballot {
+    pub voter: u16,
+    pub source: Place,
+    pub target: Place,
 }
 
-// Row 35, on a member's vote for a link that rows 31 to 34 passed or refused.
+// Row 35, on a member's vote for a link that rows 31 to 34 passed.
 fn cast<'a>(
-    link: LinkAnswer,
+    link: Link,
     keys: &'a [u64],
     heads: &'a [u16],
     nexts: &'a [u16],
     votes: usize,
-    id: u16,
-) -> Ballot
+    voter: u16,
+) -> Result<Ballot, Refusal>
     requires { (votes ≤ vote_limit) × Indexed votes keys.now heads.now nexts.now }
-    ensures { (m : Model)
-        → KeysHeld m keys.now votes
-        → ballot_of result ≡ and_then (link_answer_of link) (cast m id) }
+    ensures { (m : Model) → KeysHeld m keys.now votes → ballot_of result ≡ cast m voter (link_in link) }
 {
-    match link {
-        LinkAnswer::Refused(r) => Ballot::Refuse(r),
-        LinkAnswer::Between(s, t) => {
-            let key = tables::votes::key(id, s, t);
-            if search::number_linked(keys, heads, nexts, votes, key) {
-                return Ballot::Refuse(Refusal::VoteHeld);
-            }
-            Ballot::Cast(id, s, t)
-        }
+    let Link { source, target } = link;
+    let key = tables::votes::key(voter, source, target);
+    if search::number_linked(keys, heads, nexts, votes, key) {
+        return Err(Refusal::VoteHeld);
     }
+    Ok(Ballot {
+        voter,
+        source,
+        target,
+    })
 }
 
-// Row 36, on what the rows before it made of a vote.
-pub fn room(b: Ballot, votes: usize) -> Ballot
-    ensures { (m : Model) → length m.votes ≡ votes → change_of result ≡ and_then (ballot_of b) (room m) }
+// Row 36, on a vote that the rows before it passed.
+pub fn room(ballot: Ballot, votes: usize) -> Result<Ballot, Refusal>
+    ensures { (m : Model) → length m.votes ≡ votes → change_of result ≡ room m (vote_in ballot) }
 {
-    match b {
-        Ballot::Refuse(r) => Ballot::Refuse(r),
-        Ballot::Cast(id, s, t) => {
-            if MAX_VOTES <= votes {
-                return Ballot::Refuse(Refusal::VotesFull);
-            }
-            Ballot::Cast(id, s, t)
-        }
+    if MAX_VOTES <= votes {
+        return Err(Refusal::VotesFull);
     }
+    Ok(ballot)
 }
 
 // Rows 35 and 36, on a held member's vote for a link that rows 31 to 34 passed or refused.
 pub fn decide_cast<'a>(
-    link: LinkAnswer,
+    link: Result<Link, Refusal>,
     keys: &'a [u64],
     heads: &'a [u16],
     nexts: &'a [u16],
     votes: usize,
-    id: u16,
-) -> Ballot
+    voter: u16,
+) -> Result<Ballot, Refusal>
     requires { (votes ≤ vote_limit) × Indexed votes keys.now heads.now nexts.now }
     ensures { (m : Model)
         → KeysHeld m keys.now votes
-        → single (change_of result) ≡ cast_vote m (link_answer_of link) id }
+        → single (change_of result) ≡ cast_vote m (link_answer_of link) voter }
 {
-    room(cast(link, keys, heads, nexts, votes, id), votes)
+    let ballot = cast(link?, keys, heads, nexts, votes, voter)?;
+    room(ballot, votes)
 }
 
 // Rows 30 to 35, on the vote record at `at`.
@@ -92,7 +87,7 @@ pub fn vote_of<'a>(
     nexts: &'a [u16],
     log: &[u8],
     at: usize,
-) -> Ballot
+) -> Result<Ballot, Refusal>
     requires { Fit counts ids.now names.now parents heights keys.now heads.now nexts.now
         × (at + 75 ≤ length log.now) }
     ensures { (m : Model)
@@ -100,10 +95,10 @@ pub fn vote_of<'a>(
         → let s = drop at log.now in
         ballot_of result ≡ vote_of m (field 1 2 s) (part 3 32 s) (part 35 32 s) (field 67 4 s) (field 71 4 s) }
 {
-    let id = wire::be16(log, at + 1);
-    if counts.members <= tables::find_id(ids, counts.members, id) {
-        return Ballot::Refuse(Refusal::VoterNotHeld);
+    let voter = wire::be16(log, at + 1);
+    if counts.members <= tables::find_id(ids, counts.members, voter) {
+        return Err(Refusal::VoterNotHeld);
     }
-    let link = link_of(names, parents, heights, counts.checkpoints, log, at + 3);
-    cast(link, keys, heads, nexts, counts.votes, id)
+    let link = link_of(names, parents, heights, counts.checkpoints, log, at + 3)?;
+    cast(link, keys, heads, nexts, counts.votes, voter)
 }

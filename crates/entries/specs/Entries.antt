@@ -2,13 +2,14 @@
 -- number. Of a bundle that is not refused whole there is one byte for each vote, the i-th that of the i-th bit set;
 -- those after the first have 128 added, and so begin no record. A bundle with one bit set reads as a single record
 -- does.
-use Rattle.std.specs.Prelude.{ℕ, ◌+◌, ◌-◌, ◌%◌}
+use Rattle.std.specs.Prelude.{ℕ, ◌+◌, ◌-◌, ◌%◌, Result, Ok, Err}
 use mathlib.Core.List.{List, [], ◌∷◌, map, flat_map}
 use Rattle.model.specs.Answer.{Answer, refused, answer, row_of}
 use Rattle.model.specs.Bytes.{part}
 use Rattle.model.specs.Change.{Told, nothing_left, taken, bundled}
-use Rattle.state.specs.declared.Outcome.{Outcome}
-use Rattle.state.specs.declared.Outcome.TheVariants.{Nothing, Taken, Bundled, Refused}
+use Rattle.model.specs.declared.Refusal.{Refusal}
+use Rattle.state.specs.declared.Passed.{Passed}
+use Rattle.state.specs.declared.Passed.TheVariants.{Nothing, Taken, Bundled}
 
 abbrev pub later : ℕ → ℕ
 later row = 128 + row
@@ -32,11 +33,11 @@ abbrev pub entries : List (Answer Told) → List ℕ
 entries ts = flat_map entries_of ts
 
 -- how many votes an outcome tells of; 0 where the record is no bundle, or is refused whole
-abbrev pub votes_in : Outcome → ℕ
-votes_in Nothing = 0
-votes_in Taken = 0
-votes_in (Bundled n) = n
-votes_in (Refused r) = 0
+abbrev pub votes_in : Result Passed Refusal → ℕ
+votes_in (Ok Nothing) = 0
+votes_in (Ok Taken) = 0
+votes_in (Ok (Bundled n)) = n
+votes_in (Err r) = 0
 
 -- the rows of the last n of the first `used` entries
 abbrev pub last_rows : (n used : ℕ) → List ℕ → List ℕ

@@ -9,36 +9,36 @@ ghost use Rattle.ballots.specs.Ballot.{change_of};
 ghost use Rattle.entries.specs.Entries.{later, votes_in, last_rows};
 
 use ballots::votes::Ballot;
-use model::MAX_MEMBERS;
-use state::Outcome;
+use model::{MAX_MEMBERS, Refusal};
+use state::{Outcome, Passed};
 
 // The number of the row that refused a record; 0 where none did.
+#[tactic(auto, unfolding(model::specs::Answer::row_of))]
 pub fn row_of(o: Outcome) -> u8
     ensures { result ≡ row_of (outcome_of o) }
 {
     match o {
-        Outcome::Refused(r) => refusals::refusal_number(r),
-        Outcome::Nothing => 0,
-        Outcome::Taken => 0,
-        Outcome::Bundled(_) => 0,
+        Ok(_) => 0,
+        Err(r) => u8::from(r),
     }
 }
 
 // The number of the row that refused a vote of a bundle; 0 where none did.
-fn row_of_vote(b: Ballot) -> u8
-    ensures { (result ≡ row_of (change_of b)) × (result < 128) }
+#[tactic(auto, using(model::proofs::Refusals::refusal_small), unfolding(model::specs::Answer::row_of))]
+fn row_of_vote(vote: Result<Ballot, Refusal>) -> u8
+    ensures { (result ≡ row_of (change_of vote)) × (result < 128) }
 {
-    match b {
-        Ballot::Refuse(r) => refusals::refusal_number(r),
-        Ballot::Cast(_, _, _) => 0,
+    match vote {
+        Ok(_) => 0,
+        Err(r) => u8::from(r),
     }
 }
 
 // Its entry: the row, with 128 added where the vote is not the first of its bundle.
-pub fn vote_entry(b: Ballot, is_first: bool) -> u8
-    ensures { result ≡ cond is_first (row_of (change_of b)) (later (row_of (change_of b))) }
+pub fn vote_entry(vote: Result<Ballot, Refusal>, is_first: bool) -> u8
+    ensures { result ≡ cond is_first (row_of (change_of vote)) (later (row_of (change_of vote))) }
 {
-    let row = row_of_vote(b);
+    let row = row_of_vote(vote);
     if is_first {
         return row;
     }
@@ -50,10 +50,8 @@ fn votes_in(o: Outcome) -> usize
     ensures { result ≡ votes_in o }
 {
     match o {
-        Outcome::Bundled(n) => n,
-        Outcome::Nothing => 0,
-        Outcome::Taken => 0,
-        Outcome::Refused(_) => 0,
+        Ok(Passed::Bundled(n)) => n,
+        Ok(Passed::Nothing | Passed::Taken) | Err(_) => 0,
     }
 }
 

@@ -73,13 +73,10 @@ pub fn read_record(w: Witness, log: &[u8], from: usize) -> Reading
 {
     let mut rows = [0u8; MAX_MEMBERS];
     let r = read_from(w, log, from, 1, &mut rows);
-    let witness = r.witness;
-    let end = r.end;
-    let last = r.last;
     Reading {
-        outcome: reader::ended_by(end, last),
-        rows: entries::last_votes(&rows, r.used, last),
+        outcome: r.end.unwrap_or(r.last),
+        rows: entries::last_votes(&rows, r.used, r.last),
         next: r.next,
-        witness,
+        witness: r.witness,
     }
 }

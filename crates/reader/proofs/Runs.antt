@@ -18,14 +18,14 @@ use Rattle.model.proofs.Bytes.{drop-bytes}
 use Rattle.model.proofs.Lists.{lt_or_ge}
 use Rattle.state.specs.Sound.{Sound}
 use Rattle.state.specs.Reading.{Brief, outcome_of, brief}
-use Rattle.state.specs.declared.Outcome.{Outcome}
-use Rattle.state.specs.declared.Outcome.TheVariants.{Nothing}
+use Rattle.std.specs.Prelude.{Option, None, Some, Result, Ok}
+use Rattle.model.specs.declared.Refusal.{Refusal}
+use Rattle.state.specs.declared.Passed.{Passed}
+use Rattle.state.specs.declared.Passed.TheVariants.{Nothing}
 use Rattle.state.specs.declared.Witness.{Witness}
 use Rattle.state.proofs.Kept.{reading-sound}
 use Rattle.entries.specs.Entries.{entries_of, entries}
 use Rattle.reader.specs.Many.{spent, ended_by, Many, behind, none_passed, read_many, last_told, end_of, IsBatch}
-use Rattle.reader.specs.declared.End.{End}
-use Rattle.reader.specs.declared.End.TheVariants.{Spent, EndedBy}
 use Rattle.entries.proofs.Entries.{Written, written-length, entries-more}
 
 -- ---- what was told last
@@ -44,7 +44,7 @@ any_last t u (v ∷ ts) h = refl
 -- ---- the loop
 
 -- what was passed so far, and what remains, is the whole
-pub record Sofar (m : Many) (limit : ℕ) (log before rows : List ℕ) (held : Witness) (next : ℕ) (last : Outcome) (records used : ℕ) : Type 0 where
+pub record Sofar (m : Many) (limit : ℕ) (log before rows : List ℕ) (held : Witness) (next : ℕ) (last : Result Passed Refusal) (records used : ℕ) : Type 0 where
   pub told_so_far : List (Answer Told)
   pub count : length told_so_far ≡ records
   pub few : records ≤ limit
@@ -55,7 +55,7 @@ pub record Sofar (m : Many) (limit : ℕ) (log before rows : List ℕ) (held : W
   pub fits : next < 2 ^ 64
 
 pub none_yet : (limit : ℕ) (w : Witness) (log : List ℕ) (at : ℕ) (before : List ℕ) → Sound w → at < 2 ^ 64
-    → Sofar (read_many limit (length before) w log at) limit log before before w at Nothing 0 0
+    → Sofar (read_many limit (length before) w log at) limit log before before w at (Ok Nothing) 0 0
 unfolding last_told brief flat_map
 none_yet limit w log at before sound fits =
     let all : limit ≡ limit - 0 = omega arith in
@@ -95,13 +95,13 @@ one-may w log at n room free b e =
     let on = behind (d.told ∷ []) (read_many n (room - length (entries_of d.told)) (stored w d) log (at + record_length s)) in
     ap₂ (λ (x y : Bool). cond x (none_passed spent w at) (cond y (none_passed (ended_by (brief d.told)) w at) on)) (le-ltb room 128 free) e
 
-module _ {m : Many} {limit : ℕ} {log before rows : List ℕ} {held : Witness} {next : ℕ} {last : Outcome} {records used : ℕ}
+module _ {m : Many} {limit : ℕ} {log before rows : List ℕ} {held : Witness} {next : ℕ} {last : Result Passed Refusal} {records used : ℕ}
     (so : Sofar m limit log before rows held next last records used) where
   pub rows-length : length rows ≡ length before
   rows-length = written-length so.written
 
   -- no more is passed: the rest of the reading has this end
-  ends_with : {o : End} → read_many (limit - records) (length before - used) held log next ≡ none_passed (end_of o) held next
+  ends_with : {o : Option (Result Passed Refusal)} → read_many (limit - records) (length before - used) held log next ≡ none_passed (end_of o) held next
       → IsBatch m before (record { end = o; last = last; next = next; records = records; used = used; witness = held }) rows
   ends_with {o} e =
       let ts = so.told_so_far in
@@ -120,9 +120,9 @@ module _ {m : Many} {limit : ℕ} {log before rows : List ℕ} {held : Witness} 
 
   -- as many were passed as may be, or there is no room for another's entries
   pub all_read : ((records < limit) × (128 ≤ length rows - used) → ⊥)
-      → IsBatch m before (record { end = Spent; last = last; next = next; records = records; used = used; witness = held }) rows
+      → IsBatch m before (record { end = None; last = last; next = next; records = records; used = used; witness = held }) rows
   all_read full =
-      ends_with {o = Spent}
+      ends_with {o = None}
       (none-may held log next (limit - records) (length before - used)
       (λ h k. full (omega arith, omega (arith, rows-length))))
 
@@ -144,13 +144,13 @@ module _ {m : Many} {limit : ℕ} {log before rows : List ℕ} {held : Witness} 
         ∙ one-may held log next (limit - (records + 1)) (length before - used) (omega (arith, rows-length)) b e
 
     -- it cannot be passed
-    pub ended : {o : Outcome} → outcome_of o ≡ brief d.told → record_length s ≡ 0
-        → IsBatch m before (record { end = EndedBy o; last = last; next = next; records = records; used = used; witness = held }) rows
+    pub ended : {o : Result Passed Refusal} → outcome_of o ≡ brief d.told → record_length s ≡ 0
+        → IsBatch m before (record { end = Some o; last = last; next = next; records = records; used = used; witness = held }) rows
     ended {o} t e =
-        ends_with {o = EndedBy o} (first true (eq-eqb (record_length s) 0 e) ∙ ap (λ (u : Answer Brief). none_passed (ended_by u) held next) (sym t))
+        ends_with {o = Some o} (first true (eq-eqb (record_length s) 0 e) ∙ ap (λ (u : Answer Brief). none_passed (ended_by u) held next) (sym t))
 
     -- it is passed, and its entries stand behind those of the others
-    pub passed : {o : Outcome} {n end : ℕ} {v : Witness} {rows' : List ℕ} → outcome_of o ≡ brief d.told → n ≡ record_length s → (n ≡ 0 → ⊥)
+    pub passed : {o : Result Passed Refusal} {n end : ℕ} {v : Witness} {rows' : List ℕ} → outcome_of o ≡ brief d.told → n ≡ record_length s → (n ≡ 0 → ⊥)
         → v ≡ stored held d → Written (entries so.told_so_far ++ entries_of d.told) before rows' end → next + n < 2 ^ 64 → AreBytes log
         → Sofar m limit log before rows' v (next + n) o (records + 1) end
     passed {o} {n} {end} {v} {rows'} t size some stored written within bytes =

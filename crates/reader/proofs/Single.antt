@@ -15,7 +15,10 @@ use Rattle.model.specs.Model.{Model}
 use Rattle.model.proofs.Log.{decode_elim}
 use Rattle.state.specs.Reading.{outcome_of, brief, rows_of_votes, padded, IsReading}
 use Rattle.state.specs.State.{model_of}
-use Rattle.state.specs.declared.Outcome.{Outcome}
+use Rattle.std.specs.Prelude.{Option, None, Some, Result}
+use Rattle.std.specs.Option.{unwrap_or}
+use Rattle.model.specs.declared.Refusal.{Refusal}
+use Rattle.state.specs.declared.Passed.{Passed}
 use Rattle.state.specs.declared.Witness.{Witness}
 use Rattle.entries.specs.Entries.{votes_in, last_rows}
 use Rattle.reader.specs.Many.{Ended, Many, read_many, last_told, end_of, ended_told, IsBatch}
@@ -40,6 +43,12 @@ no-votes m s =
       quorum = λ _ e. absurd (omega arith);
     })
 
+-- what ended a reading, or else the last record
+pub ended-outcome : (e : Option (Result Passed Refusal)) (last : Result Passed Refusal)
+    → outcome_of (unwrap_or e last) ≡ ended_told (end_of e) (outcome_of last)
+ended-outcome None last = refl
+ended-outcome (Some o) last = refl
+
 module _ (room : ℕ) (w : Witness) (log : List ℕ) (at : ℕ) {before after : List ℕ} {r : Batch} (free : 128 ≤ room) (is : IsBatch (read_many 1 room w log at) before r after) where
   abbrev s : List ℕ
   s = drop at log
@@ -48,7 +57,7 @@ module _ (room : ℕ) (w : Witness) (log : List ℕ) (at : ℕ) {before after : 
   d = decide (model_of w) s
 
   -- what ended it is told; and where nothing did, the record was passed and is the last
-  pub one-reading : (o : Outcome) → outcome_of o ≡ ended_told (end_of r.end) (outcome_of r.last)
+  pub one-reading : (o : Result Passed Refusal) → outcome_of o ≡ ended_told (end_of r.end) (outcome_of r.last)
       → IsReading w d (at + record_length s)
       (record { outcome = o; rows = padded (last_rows (votes_in r.last) r.used after); next = r.next; witness = r.witness })
   unfolding read_many last_told rows_of_votes

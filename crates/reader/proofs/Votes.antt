@@ -12,8 +12,10 @@ use Rattle.model.specs.Lists.{All, none, each}
 use Rattle.model.proofs.Lists.{all_append}
 use Rattle.state.specs.Reading.{Brief, none_left, one_taken, many_votes, outcome_of, brief, rows_of_votes, padded}
 use Rattle.state.specs.State.{model_of}
-use Rattle.state.specs.declared.Outcome.{Outcome}
-use Rattle.state.specs.declared.Outcome.TheVariants.{Nothing, Taken, Bundled, Refused}
+use Rattle.std.specs.Prelude.{Result, Ok, Err}
+use Rattle.model.specs.declared.Refusal.{Refusal}
+use Rattle.state.specs.declared.Passed.{Passed}
+use Rattle.state.specs.declared.Passed.TheVariants.{Nothing, Taken, Bundled}
 use Rattle.state.specs.declared.Witness.{Witness}
 use Rattle.entries.specs.Entries.{later, marked, rows_of, entries_of, entries, votes_in, last_rows}
 use Rattle.reader.specs.Many.{read_many, last_told, IsBatch}
@@ -48,11 +50,11 @@ count_of (answer none_left) = 0
 count_of (answer one_taken) = 0
 count_of (answer (many_votes n)) = n
 
-of-outcome : (o : Outcome) → votes_in o ≡ count_of (outcome_of o)
-of-outcome Nothing = refl
-of-outcome Taken = refl
-of-outcome (Bundled n) = refl
-of-outcome (Refused r) = refl
+of-outcome : (o : Result Passed Refusal) → votes_in o ≡ count_of (outcome_of o)
+of-outcome (Ok Nothing) = refl
+of-outcome (Ok Taken) = refl
+of-outcome (Ok (Bundled n)) = refl
+of-outcome (Err r) = refl
 
 of-told : (t : Answer Told) → count_of (brief t) ≡ length (rows_of_votes t)
 unfolding brief rows_of_votes
@@ -61,7 +63,7 @@ of-told (answer nothing_left) = refl
 of-told (answer taken) = refl
 of-told (answer (bundled os)) = sym (length-map os row_of)
 
-number_is : (o : Outcome) (t : Answer Told) → outcome_of o ≡ brief t → votes_in o ≡ length (rows_of_votes t)
+number_is : (o : Result Passed Refusal) (t : Answer Told) → outcome_of o ≡ brief t → votes_in o ≡ length (rows_of_votes t)
 number_is o t e = of-outcome o ∙ ap count_of e ∙ of-told t
 
 -- the entries of one record give its votes' rows back

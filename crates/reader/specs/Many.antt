@@ -1,17 +1,17 @@
 -- Reading on: single readings of a log, one after the other, to its end or its stop.
-use Rattle.std.specs.Prelude.{ℕ, zero, suc, ◌+◌, ◌-◌, ◌≡◌, List, [], ◌∷◌, ◌++◌, cond, eqb, ltb, length, drop}
+use Rattle.std.specs.Prelude.{ℕ, zero, suc, ◌+◌, ◌-◌, ◌≡◌, List, [], ◌∷◌, ◌++◌, cond, eqb, ltb, length, drop, Option, None, Some, Result}
 use Rattle.model.specs.Answer.{Answer, answer}
 use Rattle.model.specs.Change.{Told, nothing_left}
 use Rattle.model.specs.Decide.{decide}
 use Rattle.model.specs.Limits.{member_limit}
 use Rattle.model.specs.Log.{record_length}
+use Rattle.model.specs.declared.Refusal.{Refusal}
 use Rattle.state.specs.State.{model_of, stored}
 use Rattle.state.specs.Reading.{Brief, outcome_of, brief}
 use Rattle.state.specs.declared.Witness.{Witness}
 use Rattle.entries.specs.Entries.{entries_of, entries}
 use Rattle.reader.specs.declared.Batch.{Batch}
-use Rattle.reader.specs.declared.End.{End}
-use Rattle.reader.specs.declared.End.TheVariants.{Spent, EndedBy}
+use Rattle.state.specs.declared.Passed.{Passed}
 
 -- Why readings ended: no more may be passed, since as many were as may be, or there is no room for the entries of
 -- another; or by what was told of the next record, which cannot be passed.
@@ -53,9 +53,9 @@ unfoldable pub last_told : Answer Told → List (Answer Told) → Answer Told
 last_told t [] = t
 last_told t (u ∷ us) = last_told u us
 
-abbrev pub end_of : End → Ended
-end_of Spent = spent
-end_of (EndedBy o) = ended_by (outcome_of o)
+abbrev pub end_of : Option (Result Passed Refusal) → Ended
+end_of None = spent
+end_of (Some o) = ended_by (outcome_of o)
 
 -- what was told of the record that ended them; `t` where none did
 abbrev pub ended_told : Ended → Answer Brief → Answer Brief

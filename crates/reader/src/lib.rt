@@ -3,28 +3,20 @@
 
 ghost use Rattle.std.specs.Prelude.{◌≡◌, length};
 ghost use Rattle.state.specs.Sound.{Sound};
-ghost use Rattle.state.specs.Reading.{outcome_of};
-ghost use Rattle.reader.specs.Many.{read_many, end_of, ended_told, IsBatch};
+ghost use Rattle.reader.specs.Many.{read_many, IsBatch};
 
-use ballots::votes::Ballot;
 use model::MAX_MEMBERS;
 use registry::Decision;
-use state::{Counts, Numbers, Outcome, Witness};
-
-// Why reading on ended: no more records may be passed, since as many were as the limit says, or fewer than 128 bytes
-// are left for their entries (so with a limit of 0, or fewer than 128 bytes lent, none ever is); or by what the next
-// one came to, which cannot be passed (`Nothing` where none is left).
-#[derive(Clone, Copy)]
-pub enum End {
-    Spent,
-    EndedBy(Outcome),
-}
+use state::{Counts, Numbers, Outcome, Passed, Witness};
 
 // What reading on comes to: why it ended, what the last record that was passed came to (`Nothing` where none was), the
 // offset to go on from, how many records were passed and how many entries they have, and the witness.
+// The end is what the next record came to, where that cannot be passed (`Nothing` where none is left). It is `None`
+// where no more records may be passed, since as many were as the limit says, or fewer than 128 bytes are left for their
+// entries (so with a limit of 0, or fewer than 128 bytes lent, none ever is).
 #[derive(Clone, Copy)]
 pub struct Batch {
-    pub end: End,
+    pub end: Option<Outcome>,
     pub last: Outcome,
     pub next: usize,
     pub records: u64,
@@ -49,7 +41,7 @@ pub fn read_many(w: Witness, log: &[u8], at: usize, limit: u64, rows: &mut [u8])
     let mut nexts = links.nexts;
     let mut held = w;
     let mut next = at;
-    let mut last = Outcome::Nothing;
+    let mut last: Outcome = Ok(Passed::Nothing);
     let mut records: u64 = 0;
     let mut used: usize = 0;
     while (records < limit) & (MAX_MEMBERS <= rows.len() - used) {
@@ -81,7 +73,7 @@ pub fn read_many(w: Witness, log: &[u8], at: usize, limit: u64, rows: &mut [u8])
         let passed = wire::records::record_length(log, next);
         if passed == 0 {
             return Batch {
-                end: End::EndedBy(outcome),
+                end: Some(outcome),
                 last,
                 next,
                 records,
@@ -91,63 +83,61 @@ pub fn read_many(w: Witness, log: &[u8], at: usize, limit: u64, rows: &mut [u8])
         }
         rows[used] = entries::row_of(outcome);
         let mut end = used + 1;
-        match d {
-            Decision::Member(id, bond) => {
-                held.ids[members] = id;
-                held.bonds[members] = bond;
-                held.member_count = members + 1;
-            }
-            Decision::Checkpoint(p, h) => {
-                state::copy_name(&mut held.names, checkpoints * 32, log, next + 1);
-                held.parents[checkpoints] = p;
-                held.heights[checkpoints] = h;
-                held.checkpoint_count = checkpoints + 1;
-            }
-            Decision::Vote(id, s, t) => {
-                held.voters[votes] = id;
-                held.sources[votes] = s;
-                held.targets[votes] = t;
-                held.vote_count = votes + 1;
-                let key = tables::votes::key(id, s, t);
-                search::put_first(&mut keys, &mut heads, &mut nexts, votes, key);
-            }
-            Decision::Bundle(_, link) => {
-                end = used;
-                let mut p: usize = 0;
-                while p < MAX_MEMBERS {
-                    if bits::is_set(log, next + 1, p) {
-                        let k = held.vote_count;
-                        let vote = ballots::votes::decide_cast(
-                            link,
-                            &keys,
-                            &heads,
-                            &nexts,
-                            k,
-                            held.ids[p],
-                        );
-                        rows[end] = entries::vote_entry(vote, end == used);
-                        end += 1;
-                        match vote {
-                            Ballot::Cast(id, s, t) => {
-                                held.voters[k] = id;
-                                held.sources[k] = s;
-                                held.targets[k] = t;
+        if let Ok(decision) = d {
+            match decision {
+                Decision::Member(id, bond) => {
+                    held.ids[members] = id;
+                    held.bonds[members] = bond;
+                    held.member_count = members + 1;
+                }
+                Decision::Checkpoint(p, h) => {
+                    state::copy_name(&mut held.names, checkpoints * 32, log, next + 1);
+                    held.parents[checkpoints] = p;
+                    held.heights[checkpoints] = h;
+                    held.checkpoint_count = checkpoints + 1;
+                }
+                Decision::Vote(vote) => {
+                    held.voters[votes] = vote.voter;
+                    held.sources[votes] = vote.source;
+                    held.targets[votes] = vote.target;
+                    held.vote_count = votes + 1;
+                    let key = tables::votes::key(vote.voter, vote.source, vote.target);
+                    search::put_first(&mut keys, &mut heads, &mut nexts, votes, key);
+                }
+                Decision::Bundle(_, link) => {
+                    end = used;
+                    let mut p: usize = 0;
+                    while p < MAX_MEMBERS {
+                        if bits::is_set(log, next + 1, p) {
+                            let k = held.vote_count;
+                            let vote = ballots::votes::decide_cast(
+                                link,
+                                &keys,
+                                &heads,
+                                &nexts,
+                                k,
+                                held.ids[p],
+                            );
+                            rows[end] = entries::vote_entry(vote, end == used);
+                            end += 1;
+                            if let Ok(b) = vote {
+                                held.voters[k] = b.voter;
+                                held.sources[k] = b.source;
+                                held.targets[k] = b.target;
                                 held.vote_count = k + 1;
-                                let key = tables::votes::key(id, s, t);
+                                let key = tables::votes::key(b.voter, b.source, b.target);
                                 search::put_first(&mut keys, &mut heads, &mut nexts, k, key);
                             }
-                            Ballot::Refuse(_) => {}
                         }
+                        p += 1;
                     }
-                    p += 1;
                 }
+                Decision::Quorum(k) => {
+                    let given = Numbers { p: k.p, q: k.q };
+                    held.numbers = given;
+                }
+                Decision::Nothing => {}
             }
-            Decision::Quorum(k) => {
-                let given = Numbers { p: k.p, q: k.q };
-                held.numbers = given;
-            }
-            Decision::Nothing => {}
-            Decision::Refuse(_) => {}
         }
         used = end;
         last = outcome;
@@ -155,21 +145,11 @@ pub fn read_many(w: Witness, log: &[u8], at: usize, limit: u64, rows: &mut [u8])
         records += 1;
     }
     Batch {
-        end: End::Spent,
+        end: None,
         last,
         next,
         records,
         used,
         witness: held,
-    }
-}
-
-// What the record that ended a reading came to; `otherwise` where none did.
-pub fn ended_by(e: End, otherwise: Outcome) -> Outcome
-    ensures { outcome_of result ≡ ended_told (end_of e) (outcome_of otherwise) }
-{
-    match e {
-        End::EndedBy(o) => o,
-        End::Spent => otherwise,
     }
 }

@@ -18,7 +18,7 @@ pub fn decide_checkpoint(
     count: usize,
     log: &[u8],
     at: usize,
-) -> Decision
+) -> Result<Decision, Refusal>
     requires count_in_bounds { (32 * count ≤ length names.now) × (count ≤ checkpoint_limit) × (at + 65 ≤ length log.now) }
     requires low { Low count heights }
     ensures { (m : Model)
@@ -28,17 +28,17 @@ pub fn decide_checkpoint(
         decision_of m s result ≡ single (decide_checkpoint m (part 1 32 s) (part 33 32 s)) }
 {
     if names::find_name(names, count, log, at + 1) < count {
-        return Decision::Refuse(Refusal::NameHeld);
+        return Err(Refusal::NameHeld);
     }
     let p = names::find_name(names, count, log, at + 33);
     if count <= p {
-        return Decision::Refuse(Refusal::ParentNotHeld);
+        return Err(Refusal::ParentNotHeld);
     }
     if MAX_CHECKPOINTS <= count {
-        return Decision::Refuse(Refusal::CheckpointsFull);
+        return Err(Refusal::CheckpointsFull);
     }
     let above = heights[p];
     let h = above.0 + 1;
     let parent = p as u16;
-    Decision::Checkpoint(Place(parent), Height(h))
+    Ok(Decision::Checkpoint(Place(parent), Height(h)))
 }

@@ -11,7 +11,13 @@ use crate::Decision;
 use model::{MAX_BOND, MAX_MEMBERS, Refusal};
 
 // Rows 10 to 13, on the member record at `at`; `fixed` is row 10's condition.
-pub fn decide_member(ids: &[u16], count: usize, fixed: bool, log: &[u8], at: usize) -> Decision
+pub fn decide_member(
+    ids: &[u16],
+    count: usize,
+    fixed: bool,
+    log: &[u8],
+    at: usize,
+) -> Result<Decision, Refusal>
     requires { (count ≤ length ids.now) × (at + 11 ≤ length log.now) }
     ensures { (m : Model)
         → members_fixed m ≡ fixed
@@ -20,21 +26,21 @@ pub fn decide_member(ids: &[u16], count: usize, fixed: bool, log: &[u8], at: usi
         decision_of m s result ≡ single (decide_member m (record { id = field 1 2 s; bond = field 3 8 s })) }
 {
     if fixed {
-        return Decision::Refuse(Refusal::MembersFixed);
+        return Err(Refusal::MembersFixed);
     }
     let bond = wire::be64(log, at + 3);
     if bond == 0 {
-        return Decision::Refuse(Refusal::BondOutOfRange);
+        return Err(Refusal::BondOutOfRange);
     }
     if MAX_BOND < bond {
-        return Decision::Refuse(Refusal::BondOutOfRange);
+        return Err(Refusal::BondOutOfRange);
     }
     let id = wire::be16(log, at + 1);
     if tables::find_id(ids, count, id) < count {
-        return Decision::Refuse(Refusal::IdHeld);
+        return Err(Refusal::IdHeld);
     }
     if MAX_MEMBERS <= count {
-        return Decision::Refuse(Refusal::MembersFull);
+        return Err(Refusal::MembersFull);
     }
-    Decision::Member(id, bond)
+    Ok(Decision::Member(id, bond))
 }

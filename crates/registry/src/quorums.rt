@@ -13,7 +13,12 @@ use state::Numbers;
 use state::quotas::{is_given, is_permitted};
 
 // Rows 63 and 64, on the quorum record at `at`; `fixed` is row 10's condition.
-pub fn decide_quorum(numbers: Numbers, fixed: bool, log: &[u8], at: usize) -> Decision
+pub fn decide_quorum(
+    numbers: Numbers,
+    fixed: bool,
+    log: &[u8],
+    at: usize,
+) -> Result<Decision, Refusal>
     requires { at + 5 ≤ length log.now }
     ensures { (m : Model)
         → members_fixed m ≡ fixed
@@ -22,7 +27,7 @@ pub fn decide_quorum(numbers: Numbers, fixed: bool, log: &[u8], at: usize) -> De
         decision_of m s result ≡ single (decide_quorum m (record { p = field 1 2 s; q = field 3 2 s })) }
 {
     if fixed {
-        return Decision::Refuse(Refusal::QuorumFixed);
+        return Err(Refusal::QuorumFixed);
     }
     let quota = Quota {
         p: wire::be16(log, at + 1),
@@ -30,10 +35,10 @@ pub fn decide_quorum(numbers: Numbers, fixed: bool, log: &[u8], at: usize) -> De
     };
     // row 64, both halves
     if !is_permitted(quota) {
-        return Decision::Refuse(Refusal::BadQuorum);
+        return Err(Refusal::BadQuorum);
     }
     if is_given(numbers) {
-        return Decision::Refuse(Refusal::BadQuorum);
+        return Err(Refusal::BadQuorum);
     }
-    Decision::Quorum(quota)
+    Ok(Decision::Quorum(quota))
 }

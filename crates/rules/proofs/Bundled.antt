@@ -8,12 +8,14 @@ use mathlib.Core.Bool.{Bool, true, false, not}
 use borrow.Author.Tests.{lt-ltb, eq-eqb, leb-false}
 use lib.Dec.{eqb}
 use lib.ListN.{length, length-map}
+use Rattle.std.specs.Prelude.{Result, Ok, Err}
 use Rattle.model.specs.Answer.{Answer, refused, answer, row, and_then}
 use Rattle.model.specs.Bits.{set_places}
 use Rattle.model.specs.Change.{Change, add_vote, append, append_all, Decision, single, one_vote, decided, together, whole}
 use Rattle.model.specs.Decide.{heights_agree, link_between, link_of, cast, vote_of, room, decide_vote, decide_each, bundle_ids, bit_without_member, no_bit_set, decide_bundle}
 use Rattle.model.specs.Lists.{All, none, each}
 use Rattle.model.specs.Model.{Model, Member as HeldMember, Vote as HeldVote, Link, member_at, member_index, id_held, name_held, no_member}
+use Rattle.model.specs.declared.Refusal.{Refusal}
 use Rattle.model.proofs.Answer.{row_elim, passes-row}
 use Rattle.model.proofs.Bundle.{each_member}
 use Rattle.model.proofs.Fits.{FitAll, no_change, one_change, append-both, fit-both}
@@ -22,7 +24,7 @@ use Rattle.state.specs.Reading.{many_votes, brief}
 use Rattle.ballots.specs.Ballot.{cast_vote}
 use Rattle.registry.specs.Decision.{cast_each, decision_of}
 use Rattle.registry.specs.declared.Decision.{Decision as Decides}
-use Rattle.registry.specs.declared.Decision.TheVariants.{Nothing, Refuse, Member, Checkpoint, Vote, Bundle, Quorum}
+use Rattle.registry.specs.declared.Decision.TheVariants.{Nothing, Member, Checkpoint, Vote, Bundle, Quorum}
 use Rattle.rules.specs.Decision.{BitsFit}
 
 -- two models say the same of links and of ids
@@ -132,14 +134,14 @@ bundle-number m l bits =
     (each_number m l (bundle_ids m bits) ∙ length-map (set_places bits) (λ p. (member_at m.members p).id))
 
 -- what is decided on one record by itself is no bundle
-pub single-fits : (m : Model) (n : ℕ) (s : List ℕ) (a : Answer Change) (d : Decides) → decision_of m s d ≡ single a → BitsFit n s d
-single-fits m n s a Nothing e = tt
-single-fits m n s a (Refuse r) e = tt
-single-fits m n s a (Member id bond) e = tt
-single-fits m n s a (Checkpoint p h) e = tt
-single-fits m n s a (Vote id p q) e = tt
-single-fits m n s a (Bundle k l) e = absurd (not_together _ a e)
-single-fits m n s a (Quorum k) e = tt
+pub single-fits : (m : Model) (n : ℕ) (s : List ℕ) (a : Answer Change) (d : Result Decides Refusal) → decision_of m s d ≡ single a → BitsFit n s d
+single-fits m n s a (Err r) e = tt
+single-fits m n s a (Ok Nothing) e = tt
+single-fits m n s a (Ok (Member id bond)) e = tt
+single-fits m n s a (Ok (Checkpoint p h)) e = tt
+single-fits m n s a (Ok (Vote b)) e = tt
+single-fits m n s a (Ok (Bundle k l)) e = absurd (not_together _ a e)
+single-fits m n s a (Ok (Quorum k)) e = tt
 
 -- the member at a place is held
 at_place : (m : Model) (p : ℕ) → p < length m.members → id_held m (member_at m.members p).id ≡ true

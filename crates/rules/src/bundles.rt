@@ -23,7 +23,7 @@ pub fn decide_bundle<'a>(
     heights: [Height; MAX_CHECKPOINTS],
     log: &[u8],
     at: usize,
-) -> Decision
+) -> Result<Decision, Refusal>
     requires { (32 * counts.checkpoints ≤ length names.now)
         × (counts.checkpoints ≤ checkpoint_limit)
         × Falling counts.checkpoints parents
@@ -39,12 +39,12 @@ pub fn decide_bundle<'a>(
     ensures bits_fit { BitsFit counts.members (drop at log.now) result }
 {
     if bits::any_from(log, at + 1, counts.members) {
-        return Decision::Refuse(Refusal::BitWithoutMember);
+        return Err(Refusal::BitWithoutMember);
     }
     let votes = bits::number(log, at + 1);
     if votes == 0 {
-        return Decision::Refuse(Refusal::NoBitSet);
+        return Err(Refusal::NoBitSet);
     }
     let link = link_of(names, parents, heights, counts.checkpoints, log, at + 17);
-    Decision::Bundle(votes, link)
+    Ok(Decision::Bundle(votes, link))
 }

@@ -14,24 +14,23 @@ ghost use Rattle.rules.specs.Decision.{BitsFit};
 
 use model::{Height, MAX_CHECKPOINTS, Place, Refusal};
 use registry::{Decision, checkpoints, members, quorums};
-use state::{Counts, Numbers, Outcome};
+use state::{Counts, Numbers, Outcome, Passed};
 
 pub mod bundles;
 pub mod votes;
 
 // What the record comes to by the decision.
-pub fn outcome_of(d: Decision) -> Outcome
-    ensures { (m : Model) (n : ℕ) (s : List ℕ) → BitsFit n s d → outcome_of result ≡ brief (decision_of m s d).told }
+pub fn outcome_of(decision: Result<Decision, Refusal>) -> Outcome
+    ensures { (m : Model) (n : ℕ) (s : List ℕ)
+        → BitsFit n s decision
+        → outcome_of result ≡ brief (decision_of m s decision).told }
 {
-    match d {
-        Decision::Nothing => Outcome::Nothing,
-        Decision::Refuse(r) => Outcome::Refused(r),
-        Decision::Member(_, _) => Outcome::Taken,
-        Decision::Checkpoint(_, _) => Outcome::Taken,
-        Decision::Vote(_, _, _) => Outcome::Taken,
-        Decision::Bundle(votes, _) => Outcome::Bundled(votes),
-        Decision::Quorum(_) => Outcome::Taken,
-    }
+    Ok(match decision? {
+        Decision::Nothing => Passed::Nothing,
+        Decision::Bundle(votes, _) => Passed::Bundled(votes),
+        Decision::Member(..) | Decision::Checkpoint(..) | Decision::Vote(_) | Decision::Quorum(_) =>
+            Passed::Taken,
+    })
 }
 
 // The record at `at`: row 4 where the kind is unknown (its size is 0, so it is never cut), row 5 where the log ends
@@ -49,7 +48,7 @@ pub fn decide_record<'a>(
     nexts: &'a [u16],
     log: &[u8],
     at: usize,
-) -> Decision
+) -> Result<Decision, Refusal>
     requires { Fit counts ids.now names.now parents heights keys.now heads.now nexts.now }
     ensures { (m : Model)
         → m.rule ≡ rule_of (quota_in numbers)
@@ -58,11 +57,11 @@ pub fn decide_record<'a>(
         (decision_of m s result ≡ decide m s) × BitsFit counts.members s result }
 {
     if log.len() <= at {
-        return Decision::Nothing;
+        return Ok(Decision::Nothing);
     }
     let kind = log[at];
     if log.len() - at < wire::records::record_size(kind) {
-        return Decision::Refuse(Refusal::CutRecord);
+        return Err(Refusal::CutRecord);
     }
     let root = heights[0];
     let fixed = (0 < counts.votes) | (1 < counts.checkpoints) | (0 < root.0);
@@ -74,6 +73,6 @@ pub fn decide_record<'a>(
         ),
         4 => quorums::decide_quorum(numbers, fixed, log, at),
         5 => bundles::decide_bundle(counts, names, parents, heights, log, at),
-        0 | 6..=255 => Decision::Refuse(Refusal::UnknownKind),
+        0 | 6..=255 => Err(Refusal::UnknownKind),
     }
 }

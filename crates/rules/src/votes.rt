@@ -8,8 +8,8 @@ ghost use Rattle.state.specs.Tables.{Held};
 ghost use Rattle.ballots.specs.Fit.{Fit};
 ghost use Rattle.registry.specs.Decision.{decision_of};
 
-use ballots::votes::{Ballot, room, vote_of};
-use model::{Height, MAX_CHECKPOINTS, Place};
+use ballots::votes::{room, vote_of};
+use model::{Height, MAX_CHECKPOINTS, Place, Refusal};
 use registry::Decision;
 use state::Counts;
 
@@ -25,7 +25,7 @@ pub fn decide_vote<'a>(
     nexts: &'a [u16],
     log: &[u8],
     at: usize,
-) -> Decision
+) -> Result<Decision, Refusal>
     requires { Fit counts ids.now names.now parents heights keys.now heads.now nexts.now
         × (at + 75 ≤ length log.now) }
     ensures { (m : Model)
@@ -34,11 +34,9 @@ pub fn decide_vote<'a>(
         decision_of m s result
         ≡ single (decide_vote m (field 1 2 s) (part 3 32 s) (part 35 32 s) (field 67 4 s) (field 71 4 s)) }
 {
-    let ballot = vote_of(
+    let passed = vote_of(
         counts, ids, names, parents, heights, keys, heads, nexts, log, at,
-    );
-    match room(ballot, counts.votes) {
-        Ballot::Refuse(r) => Decision::Refuse(r),
-        Ballot::Cast(id, s, t) => Decision::Vote(id, s, t),
-    }
+    )?;
+    let ballot = room(passed, counts.votes)?;
+    Ok(Decision::Vote(ballot))
 }

@@ -15,13 +15,13 @@ use Rattle.model.specs.declared.Refusal.TheVariants.{UnsoundState}
 use Rattle.state.specs.Reading.{brief, rows_of_votes, padded, IsReading}
 use Rattle.state.specs.Sound.{sound?}
 use Rattle.state.specs.State.{model_of, store_all, stored}
-use Rattle.state.specs.declared.Outcome.TheVariants.{Nothing, Refused}
+use Rattle.std.specs.Prelude.{Some, Ok, Err}
+use Rattle.state.specs.declared.Passed.TheVariants.{Nothing}
 use Rattle.state.specs.declared.Reading.{Reading}
 use Rattle.state.specs.declared.Witness.{Witness}
 use Rattle.sound.proofs.Guarded.{held_unsound, held-sound}
 use Rattle.reader.specs.Many.{read_many, last_told, IsBatch}
 use Rattle.reader.specs.declared.Batch.{Batch}
-use Rattle.reader.specs.declared.End.TheVariants.{EndedBy}
 use Rattle.mover.specs.Moved.{IsMoved, refused_move}
 use Rattle.mover.specs.declared.Moved.{Moved}
 use Rattle.witness.specs.Calls.{decide_on, event_call}
@@ -42,7 +42,7 @@ module _ (w : Witness) (s : List ℕ) (at : ℕ) where
   unfolding passed
   passed_is e = ap (λ (b : Bool). at + cond b (record_length s) 0) (sym e)
 
-  pub unsound_reading : sound? w ≡ false → IsReading w (event_call w (reading s)) (at + passed w s) (record { outcome = Refused UnsoundState; rows = replicate 128 0; next = at; witness = w })
+  pub unsound_reading : sound? w ≡ false → IsReading w (event_call w (reading s)) (at + passed w s) (record { outcome = Err UnsoundState; rows = replicate 128 0; next = at; witness = w })
   unfolding single store_all brief rows_of_votes
   unsound_reading e =
       let d = sym (unsound_event w (reading s) e) in
@@ -87,6 +87,6 @@ module _ (n room : ℕ) (w : Witness) (log : List ℕ) (at : ℕ) where
   many-sound e is = rw e is
 
   pub many_unsound : sound? w ≡ false → (rows : List ℕ)
-      → IsBatch (many_call n room w log at) rows (record { end = EndedBy (Refused UnsoundState); last = Nothing; next = at; records = 0; used = 0; witness = w }) rows
+      → IsBatch (many_call n room w log at) rows (record { end = Some (Err UnsoundState); last = Ok Nothing; next = at; records = 0; used = 0; witness = w }) rows
   unfolding many_call last_told brief flat_map
   many_unsound e rows = rw e (record { end = refl; last = refl; next = refl; records = refl; used = refl; witness = refl; rows = refl })

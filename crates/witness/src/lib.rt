@@ -14,8 +14,8 @@ ghost use Rattle.witness.specs.Readings.{passed, many_call};
 
 use model::{MAX_MEMBERS, Place, Refusal};
 use mover::Moved;
-use reader::{Batch, End};
-use state::{Beginning, Outcome, Reading, Witness};
+use reader::Batch;
+use state::{Beginning, Passed, Reading, Witness};
 
 // Reading a header: rows 1 to 3, which leave the state handed in; or the empty witness with that root. Any state is
 // taken.
@@ -32,7 +32,7 @@ pub fn read(w: Witness, log: &[u8], at: usize) -> Reading
 {
     if !sound::is_sound(w) {
         return Reading {
-            outcome: Outcome::Refused(Refusal::UnsoundState),
+            outcome: Err(Refusal::UnsoundState),
             rows: [0u8; MAX_MEMBERS],
             next: at,
             witness: w,
@@ -51,8 +51,8 @@ pub fn read_many(w: Witness, log: &[u8], at: usize, limit: u64, rows: &mut [u8])
 {
     if !sound::is_sound(w) {
         return Batch {
-            end: End::EndedBy(Outcome::Refused(Refusal::UnsoundState)),
-            last: Outcome::Nothing,
+            end: Some(Err(Refusal::UnsoundState)),
+            last: Ok(Passed::Nothing),
             next: at,
             records: 0,
             used: 0,

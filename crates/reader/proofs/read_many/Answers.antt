@@ -16,10 +16,11 @@ use Rattle.model.specs.Model.{Link, vote_for}
 use Rattle.model.specs.declared.Place.{Place}
 use Rattle.model.proofs.Fits.{Fits, FitAll}
 use Rattle.model.proofs.Lists.{and_left, and_right, both, clash, not_so}
-use Rattle.ballots.specs.Ballot.{link_answer_of, change_of, cast_vote}
-use Rattle.ballots.specs.declared.links.LinkAnswer.{LinkAnswer}
+use Rattle.ballots.specs.Ballot.{vote_in, link_answer_of, change_of, cast_vote}
+use Rattle.std.specs.Prelude.{Result, Ok}
+use Rattle.model.specs.declared.Refusal.{Refusal}
+use Rattle.ballots.specs.declared.links.Link.{Link as CodeLink}
 use Rattle.ballots.specs.declared.votes.Ballot.{Ballot}
-use Rattle.ballots.specs.declared.votes.Ballot.TheVariants.{Cast}
 use Rattle.registry.specs.Decision.{cast_each, decision_of}
 use Rattle.registry.specs.declared.Decision.{Decision}
 use Rattle.registry.specs.declared.Decision.TheVariants.{Bundle}
@@ -44,7 +45,7 @@ use Rattle.reader.proofs.Made.{length-inside}
 use Rattle.reader.proofs.Runs.{Sofar, none_yet, rows-length, all_read, ended, passed}
 use Rattle.reader.proofs.Searched.{Searched, searched_as, without_vote, with_vote_lem}
 use Rattle.reader.proofs.read_many.Goals as goal
-use Rattle.reader.proofs.read_many.Goals.{After-decide_cast-vote, After-decide_record-d, After-record_length-passed, After-row_of, In-Bundle, In-Cast, In-Checkpoint, In-Member, In-Vote, In-loop-p, In-loop-records, Joined-d, then-is_set+in-Cast, then-is_set+in-Refuse-vote, else-is_set, in-Member, in-Checkpoint, in-Vote, in-Bundle+else-loop-p-test, in-Quorum, in-Nothing, in-Refuse}
+use Rattle.reader.proofs.read_many.Goals.{After-decide_cast-vote, After-decide_record-d, After-record_length-passed, After-row_of, In-Bundle, In-Ok-vote, In-Checkpoint, In-Member, In-Vote, In-loop-p, In-loop-records, Joined-d, then-is_set+in-Ok-vote, then-is_set+in_default-vote, else-is_set, in-Ok+in-Member, in-Ok+in-Checkpoint, in-Ok+in-Vote, in-Ok+in-Bundle+else-loop-p-test, in-Ok+in-Quorum, in-Ok+in-Nothing, in_default}
 
 abbrev held : After-decide_record-d → Witness
 held c = c.loop-records.held
@@ -92,7 +93,7 @@ known c =
     (all_held (held c) (ids-long (held c) (sound c)) c.loop-records.invariant.1.votes)
 
 -- once its case is known: what is added fits
-fits : (c : After-decide_record-d) (d : Decision) {x : Change} → c.decide_record-d.result ≡ d → (decision_of (model_of (held c)) (s c) d).changes ≡ x ∷ [] → Fits (model_of (held c)) x
+fits : (c : After-decide_record-d) (d : Result Decision Refusal) {x : Change} → c.decide_record-d.result ≡ d → (decision_of (model_of (held c)) (s c) d).changes ≡ x ∷ [] → Fits (model_of (held c)) x
 fits c d e one = says_fits (held c) (log c) (next c) (bytes c) d (subst (Says (held c) (log c) (next c)) e (known c).0) one
 
 -- where the record ends is within the numbers
@@ -105,15 +106,15 @@ past c =
 -- what is taken has room
 member-room : (c : In-Member) → (held (goal.at.In-Member c).After-decide_record-d).member_count < 128
 unfolding single
-member-room c = omega (arith, (fits (goal.at.In-Member c).After-decide_record-d _ c.in-Member.is refl).0, count-members (held (goal.at.In-Member c).After-decide_record-d))
+member-room c = omega (arith, (fits (goal.at.In-Member c).After-decide_record-d _ (c.in-Ok.is ∙ ap Ok c.in-Member.is) refl).0, count-members (held (goal.at.In-Member c).After-decide_record-d))
 
 checkpoint-room : (c : In-Checkpoint) → (held (goal.at.In-Checkpoint c).After-decide_record-d).checkpoint_count < 512
 unfolding single
-checkpoint-room c = omega (arith, (fits (goal.at.In-Checkpoint c).After-decide_record-d _ c.in-Checkpoint.is refl).0, count-checkpoints (held (goal.at.In-Checkpoint c).After-decide_record-d))
+checkpoint-room c = omega (arith, (fits (goal.at.In-Checkpoint c).After-decide_record-d _ (c.in-Ok.is ∙ ap Ok c.in-Checkpoint.is) refl).0, count-checkpoints (held (goal.at.In-Checkpoint c).After-decide_record-d))
 
 vote-room : (c : In-Vote) → (held (goal.at.In-Vote c).After-decide_record-d).vote_count < 4096
 unfolding single
-vote-room c = omega (arith, fits (goal.at.In-Vote c).After-decide_record-d _ c.in-Vote.is refl, count-votes (held (goal.at.In-Vote c).After-decide_record-d))
+vote-room c = omega (arith, fits (goal.at.In-Vote c).After-decide_record-d _ (c.in-Ok.is ∙ ap Ok c.in-Vote.is) refl, count-votes (held (goal.at.In-Vote c).After-decide_record-d))
 
 -- the name lies within the log
 name-inside : (c : In-Checkpoint) → let r = (goal.at.In-Checkpoint c).After-decide_record-d in
@@ -121,7 +122,7 @@ name-inside : (c : In-Checkpoint) → let r = (goal.at.In-Checkpoint c).After-de
 unfolding single
 name-inside c =
     let r = (goal.at.In-Checkpoint c).After-decide_record-d in
-    let long = (fits (goal.at.In-Checkpoint c).After-decide_record-d _ c.in-Checkpoint.is refl).1 in
+    let long = (fits (goal.at.In-Checkpoint c).After-decide_record-d _ (c.in-Ok.is ∙ ap Ok c.in-Checkpoint.is) refl).1 in
     omega (arith, long, length-take 32 (drop 1 (s (goal.at.In-Checkpoint c).After-decide_record-d)), length-drop 1 (s (goal.at.In-Checkpoint c).After-decide_record-d), length-drop (next (goal.at.In-Checkpoint c).After-decide_record-d) (log (goal.at.In-Checkpoint c).After-decide_record-d))
 
 pub index-links-requires : goal.index-links-requires
@@ -245,7 +246,7 @@ bits_are : (c : In-Bundle) → part 1 16 (s (goal.at.In-Bundle c).After-decide_r
 bits_are c = part_at (next (goal.at.In-Bundle c).After-decide_record-d) 1 16 (log (goal.at.In-Bundle c).After-decide_record-d)
 
 bits_fit : (c : In-Bundle) → Bits (held (goal.at.In-Bundle c).After-decide_record-d).member_count c.in-Bundle.field-0 (s (goal.at.In-Bundle c).After-decide_record-d)
-bits_fit c = subst (BitsFit (held (goal.at.In-Bundle c).After-decide_record-d).member_count (s (goal.at.In-Bundle c).After-decide_record-d)) c.in-Bundle.is (known (goal.at.In-Bundle c).After-decide_record-d).1
+bits_fit c = subst (BitsFit (held (goal.at.In-Bundle c).After-decide_record-d).member_count (s (goal.at.In-Bundle c).After-decide_record-d)) (c.in-Ok.is ∙ ap Ok c.in-Bundle.is) (known (goal.at.In-Bundle c).After-decide_record-d).1
 
 -- the rows as they are when its loop begins
 abbrev rows_then : In-Bundle → List ℕ
@@ -286,7 +287,7 @@ member-there c set =
     omega (arith, below, count-members (held (goal.at.In-loop-p c).After-decide_record-d))
 
 -- the vote that is decided there
-abbrev Votes : In-loop-p → Ballot → Type 0
+abbrev Votes : In-loop-p → Result Ballot Refusal → Type 0
 Votes c b = single (change_of b) ≡ cast_vote (model_of c.loop-p.held) (link (goal.at.In-loop-p c).In-Bundle) (id-there c)
 
 votes : (c : After-decide_cast-vote) → Votes (goal.at.After-decide_cast-vote c).In-loop-p c.decide_cast-vote.result
@@ -294,18 +295,18 @@ votes c =
     c.decide_cast-vote.ensures (model_of c.loop-p.held) (casting (goal.at.After-decide_cast-vote c).In-loop-p).searched.votes
 
 -- one that is cast has room
-cast-room : (c : In-loop-p) (id : ℕ) (s t : Place) → Votes c (Cast id s t) → c.loop-p.held.vote_count < 4096
+cast-room : (c : In-loop-p) (b : Ballot) → Votes c (Ok b) → c.loop-p.held.vote_count < 4096
 unfolding single
-cast-room c id s t v =
+cast-room c b v =
     let w = c.loop-p.held in
-    let fit : Fits (model_of w) (add_vote (vote_for id s.0 t.0)) =
+    let fit : Fits (model_of w) (add_vote (vote_in b)) =
     first_fits (subst (λ (d : Decided). FitAll (model_of w) d.changes) (sym v) (cast_fits (model_of w) (link (goal.at.In-loop-p c).In-Bundle) (id-there c))) in
     omega (arith, fit, count-votes w)
 
-cast-fits-there : (c : In-Cast) → c.loop-p.held.vote_count < 4096
+cast-fits-there : (c : In-Ok-vote) → c.loop-p.held.vote_count < 4096
 cast-fits-there c =
-    let d = (goal.at.In-Cast c).After-decide_cast-vote in
-    cast-room (goal.at.In-Cast c).In-loop-p _ _ _ (subst (Votes (goal.at.In-Cast c).In-loop-p) c.in-Cast.is (votes (goal.at.In-Cast c).After-decide_cast-vote))
+    let d = (goal.at.In-Ok-vote c).After-decide_cast-vote in
+    cast-room (goal.at.In-Ok-vote c).In-loop-p _ (subst (Votes (goal.at.In-Ok-vote c).In-loop-p) c.in-Ok-vote.is (votes (goal.at.In-Ok-vote c).After-decide_cast-vote))
 
 pub overflow_add-next-in-loop-p : goal.overflow_add-next-in-loop-p
 overflow_add-next-in-loop-p c = omega (arith, inside-log (goal.at.overflow_add-next-in-loop-p c).In-loop-p, c.well_formed)
@@ -334,29 +335,29 @@ overflow_add-end-then-is_set c =
     )
 
 pub offset_bounds-held-k : goal.offset_bounds-held-k
-offset_bounds-held-k c = omega (arith, cast-fits-there (goal.at.offset_bounds-held-k c).In-Cast)
+offset_bounds-held-k c = omega (arith, cast-fits-there (goal.at.offset_bounds-held-k c).In-Ok-vote)
 
 pub bounds-held-k : goal.bounds-held-k
-bounds-held-k c = cast-fits-there (goal.at.bounds-held-k c).In-Cast
+bounds-held-k c = cast-fits-there (goal.at.bounds-held-k c).In-Ok-vote
 
-pub offset_bounds-held-k-in-Cast : goal.offset_bounds-held-k-in-Cast
-offset_bounds-held-k-in-Cast c = omega (arith, cast-fits-there (goal.at.offset_bounds-held-k-in-Cast c).In-Cast)
+pub offset_bounds-held-k-in-Ok-vote : goal.offset_bounds-held-k-in-Ok-vote
+offset_bounds-held-k-in-Ok-vote c = omega (arith, cast-fits-there (goal.at.offset_bounds-held-k-in-Ok-vote c).In-Ok-vote)
 
-pub bounds-held-k-in-Cast : goal.bounds-held-k-in-Cast
-bounds-held-k-in-Cast c = cast-fits-there (goal.at.bounds-held-k-in-Cast c).In-Cast
+pub bounds-held-k-in-Ok-vote : goal.bounds-held-k-in-Ok-vote
+bounds-held-k-in-Ok-vote c = cast-fits-there (goal.at.bounds-held-k-in-Ok-vote c).In-Ok-vote
 
-pub offset_bounds-held-k-in-Cast-2 : goal.offset_bounds-held-k-in-Cast-2
-offset_bounds-held-k-in-Cast-2 c = omega (arith, cast-fits-there (goal.at.offset_bounds-held-k-in-Cast-2 c).In-Cast)
+pub offset_bounds-held-k-in-Ok-vote-2 : goal.offset_bounds-held-k-in-Ok-vote-2
+offset_bounds-held-k-in-Ok-vote-2 c = omega (arith, cast-fits-there (goal.at.offset_bounds-held-k-in-Ok-vote-2 c).In-Ok-vote)
 
-pub bounds-held-k-in-Cast-2 : goal.bounds-held-k-in-Cast-2
-bounds-held-k-in-Cast-2 c = cast-fits-there (goal.at.bounds-held-k-in-Cast-2 c).In-Cast
+pub bounds-held-k-in-Ok-vote-2 : goal.bounds-held-k-in-Ok-vote-2
+bounds-held-k-in-Ok-vote-2 c = cast-fits-there (goal.at.bounds-held-k-in-Ok-vote-2 c).In-Ok-vote
 
-pub overflow_add-held-in-Cast : goal.overflow_add-held-in-Cast
-overflow_add-held-in-Cast c = omega (arith, cast-fits-there (goal.at.overflow_add-held-in-Cast c).In-Cast)
+pub overflow_add-held-in-Ok-vote : goal.overflow_add-held-in-Ok-vote
+overflow_add-held-in-Ok-vote c = omega (arith, cast-fits-there (goal.at.overflow_add-held-in-Ok-vote c).In-Ok-vote)
 
-pub put_first-requires-in-Cast : goal.put_first-requires-in-Cast
-put_first-requires-in-Cast c =
-    (cast-fits-there (goal.at.put_first-requires-in-Cast c).In-Cast, (casting (goal.at.put_first-requires-in-Cast c).In-loop-p).searched.indexed)
+pub put_first-requires-in-Ok-vote : goal.put_first-requires-in-Ok-vote
+put_first-requires-in-Ok-vote c =
+    (cast-fits-there (goal.at.put_first-requires-in-Ok-vote c).In-Ok-vote, (casting (goal.at.put_first-requires-in-Ok-vote c).In-loop-p).searched.indexed)
 
 pub overflow_add-p : goal.overflow_add-p
 overflow_add-p c = omega (arith, c.loop-p-test.true)
@@ -371,7 +372,7 @@ single-row (refused n) = refl
 single-row (answer c) = refl
 
 -- the place is passed: with a vote that was decided there
-voted : (c : In-loop-p) (b : Ballot) {held' : Witness} {keys' heads' nexts' : List ℕ} {x : ℕ}
+voted : (c : In-loop-p) (b : Result Ballot Refusal) {held' : Witness} {keys' heads' nexts' : List ℕ} {x : ℕ}
     → let l = c.loop-p in
     let t = (goal.at.In-loop-p c).In-Bundle in
     bit_set (bits (goal.at.In-loop-p c).In-Bundle) l.p ≡ true → Votes c b → held' ≡ stored l.held (single (change_of b)) → Searched held' keys' heads' nexts'
@@ -389,19 +390,19 @@ unfolding single store_all store with_vote
 loop-p-preserved c =
     let w0 = c.loop-p.held in
     let set_is : c.is_set.result ≡ true → bit_set (bits (goal.at.loop-p-preserved c).In-Bundle) c.loop-p.p ≡ true = λ e. sym c.is_set.ensures ∙ e in
-    let leaves : Ballot → Witness = λ b. stored w0 (single (change_of b)) in
+    let leaves : Result Ballot Refusal → Witness = λ b. stored w0 (single (change_of b)) in
     elim c.if-is_set.branch [
-      | then-is_set+in-Cast w ↦
+      | then-is_set+in-Ok-vote w ↦
           let v = w.decide_cast-vote.ensures (model_of w0) (casting (goal.at.loop-p-preserved c).In-loop-p).searched.votes in
-          let key = w.key-key-in-Cast.ensures in
+          let key = w.key-key-in-Ok-vote.ensures in
           casting_as w.rows-is w.keys-is w.heads-is w.nexts-is w.held-is w.end-is
-          (voted (goal.at.loop-p-preserved c).In-loop-p w.decide_cast-vote.result (set_is w.if-is_set.true) v (ap leaves (sym w.in-Cast.is))
-          (with_vote_lem w0 (casting (goal.at.loop-p-preserved c).In-loop-p).searched (typed_now (sound (goal.at.loop-p-preserved c).After-decide_record-d) (casting (goal.at.loop-p-preserved c).In-loop-p)).votes _ (cast-room (goal.at.loop-p-preserved c).In-loop-p _ _ _ (subst (Votes (goal.at.loop-p-preserved c).In-loop-p) w.in-Cast.is v)) key.1 key.2
-          (w.put_first-in-Cast.ensures.0 ∙ ap (set c.loop-p.keys w0.vote_count) key.0) w.put_first-in-Cast.ensures.1)
+          (voted (goal.at.loop-p-preserved c).In-loop-p w.decide_cast-vote.result (set_is w.if-is_set.true) v (ap leaves (sym w.in-Ok-vote.is))
+          (with_vote_lem w0 (casting (goal.at.loop-p-preserved c).In-loop-p).searched (typed_now (sound (goal.at.loop-p-preserved c).After-decide_record-d) (casting (goal.at.loop-p-preserved c).In-loop-p)).votes _ (cast-room (goal.at.loop-p-preserved c).In-loop-p _ (subst (Votes (goal.at.loop-p-preserved c).In-loop-p) w.in-Ok-vote.is v)) key.1 key.2
+          (w.put_first-in-Ok-vote.ensures.0 ∙ ap (set c.loop-p.keys w0.vote_count) key.0) w.put_first-in-Ok-vote.ensures.1)
           w.vote_entry.ensures)
-      | then-is_set+in-Refuse-vote w ↦
+      | then-is_set+in_default-vote w ↦
           casting_as w.rows-is w.keys-is w.heads-is w.nexts-is w.held-is w.end-is
-          (voted (goal.at.loop-p-preserved c).In-loop-p w.decide_cast-vote.result (set_is w.if-is_set.true) (w.decide_cast-vote.ensures (model_of w0) (casting (goal.at.loop-p-preserved c).In-loop-p).searched.votes) (ap leaves (sym w.in-Refuse-vote.is))
+          (voted (goal.at.loop-p-preserved c).In-loop-p w.decide_cast-vote.result (set_is w.if-is_set.true) (w.decide_cast-vote.ensures (model_of w0) (casting (goal.at.loop-p-preserved c).In-loop-p).searched.votes) (ap leaves (sym w.in_default-vote.is))
           (casting (goal.at.loop-p-preserved c).In-loop-p).searched w.vote_entry.ensures)
       | else-is_set w ↦
           casting_as w.rows-is w.keys-is w.heads-is w.nexts-is w.held-is w.end-is
@@ -435,28 +436,28 @@ entry-written c {d} e one =
     (write_one x (before-it c) (room-there c))
 
 -- by the case of what was decided
-by-case : (c : After-row_of) {d : Decision} {v : Witness} {rows rows' keys keys' heads heads' nexts nexts' : List ℕ} {end end' : ℕ}
+by-case : (c : After-row_of) {d : Result Decision Refusal} {v : Witness} {rows rows' keys keys' heads heads' nexts nexts' : List ℕ} {end end' : ℕ}
     → let r = (goal.at.After-row_of c).After-decide_record-d in
     c.decide_record-d.result ≡ d → rows' ≡ rows → keys' ≡ keys → heads' ≡ heads → nexts' ≡ nexts → v ≡ stored (held (goal.at.After-row_of c).After-decide_record-d) (decision_of (model_of (held (goal.at.After-row_of c).After-decide_record-d)) (s (goal.at.After-row_of c).After-decide_record-d) d) → end' ≡ end
     → Searched (stored (held (goal.at.After-row_of c).After-decide_record-d) (decision_of (model_of (held (goal.at.After-row_of c).After-decide_record-d)) (s (goal.at.After-row_of c).After-decide_record-d) d)) keys heads nexts
     → Written (entries (so (goal.at.After-row_of c).After-decide_record-d).told_so_far ++ entries_of (decide (model_of (held (goal.at.After-row_of c).After-decide_record-d)) (s (goal.at.After-row_of c).After-decide_record-d)).told) c.args.rows.now rows end
     → Leaves c rows' keys' heads' nexts' v end'
 by-case c {d} {v} {end' = end'} e r k h n stored_is last searched written =
-    let all = stored_is ∙ ap (λ (x : Decision). stored (held (goal.at.After-row_of c).After-decide_record-d) (decision_of (model_of (held (goal.at.After-row_of c).After-decide_record-d)) (s (goal.at.After-row_of c).After-decide_record-d) x)) (sym e) in
+    let all = stored_is ∙ ap (λ (x : Result Decision Refusal). stored (held (goal.at.After-row_of c).After-decide_record-d) (decision_of (model_of (held (goal.at.After-row_of c).After-decide_record-d)) (s (goal.at.After-row_of c).After-decide_record-d) x)) (sym e) in
     record {
       stored-all = all ∙ ap (stored (held (goal.at.After-row_of c).After-decide_record-d)) (known (goal.at.After-row_of c).After-decide_record-d).0;
       searched = searched_as stored_is k h n searched;
       written = transport (λ i. Written (entries (so (goal.at.After-row_of c).After-decide_record-d).told_so_far ++ entries_of (decide (model_of (held (goal.at.After-row_of c).After-decide_record-d)) (s (goal.at.After-row_of c).After-decide_record-d)).told) c.args.rows.now (sym r i) (sym last i)) written;
     }
 
-decided-as : (c : After-decide_record-d) {d : Decision} → c.decide_record-d.result ≡ d → decide (model_of (held c)) (s c) ≡ decision_of (model_of (held c)) (s c) d
+decided-as : (c : After-decide_record-d) {d : Result Decision Refusal} → c.decide_record-d.result ≡ d → decide (model_of (held c)) (s c) ≡ decision_of (model_of (held c)) (s c) d
 decided-as c e = sym (known c).0 ∙ ap (decision_of (model_of (held c)) (s c)) e
 
 -- a bundle, when the loop over its members is over
-bundle-left : (c : After-row_of) {keys heads nexts : List ℕ} {p : ℕ} {rows : List ℕ} {v : Witness} {end : ℕ} (n : ℕ) (lk : LinkAnswer)
+bundle-left : (c : After-row_of) {keys heads nexts : List ℕ} {p : ℕ} {rows : List ℕ} {v : Witness} {end : ℕ} (n : ℕ) (lk : Result CodeLink Refusal)
     → let r = (goal.at.After-row_of c).After-decide_record-d in
     let b = part (next r + 1) 16 (log r) in
-    c.decide_record-d.result ≡ Bundle n lk
+    c.decide_record-d.result ≡ Ok (Bundle n lk)
     → Casting (held r) (link_answer_of lk) b (set c.loop-records.rows (used r) c.row_of.result) keys heads nexts (used r) p rows v end → 128 ≤ p
     → Leaves c rows keys heads nexts v end
 bundle-left c {keys} {heads} {nexts} {p} {rows} {v} {end} n lk is cast-so over =
@@ -487,29 +488,29 @@ leaves c =
     let so = c.loop-records.invariant.1 in
     let dec = (goal.at.Joined-d c).After-decide_record-d in
     elim c.match-d.branch [
-      | in-Member m ↦
-          by-case o m.in-Member.is m.rows-is m.keys-is m.heads-is m.nexts-is m.held-is m.end-is (without_vote w so _ refl)
-          (entry-written o (decided-as dec m.in-Member.is) taken-entry)
-      | in-Checkpoint k ↦
-          by-case o k.in-Checkpoint.is k.rows-is k.keys-is k.heads-is k.nexts-is (k.held-is ∙ checkpoint-stored w (next dec) (log dec) _ _ k.copy_name.ensures) k.end-is (without_vote w so _ refl)
-          (entry-written o (decided-as dec k.in-Checkpoint.is) taken-entry)
-      | in-Vote v ↦
+      | in-Ok+in-Member m ↦
+          by-case o (m.in-Ok.is ∙ ap Ok m.in-Member.is) m.rows-is m.keys-is m.heads-is m.nexts-is m.held-is m.end-is (without_vote w so _ refl)
+          (entry-written o (decided-as dec (m.in-Ok.is ∙ ap Ok m.in-Member.is)) taken-entry)
+      | in-Ok+in-Checkpoint k ↦
+          by-case o (k.in-Ok.is ∙ ap Ok k.in-Checkpoint.is) k.rows-is k.keys-is k.heads-is k.nexts-is (k.held-is ∙ checkpoint-stored w (next dec) (log dec) _ _ k.copy_name.ensures) k.end-is (without_vote w so _ refl)
+          (entry-written o (decided-as dec (k.in-Ok.is ∙ ap Ok k.in-Checkpoint.is)) taken-entry)
+      | in-Ok+in-Vote v ↦
           let key = v.key-key.ensures in
-          let room : w.vote_count < 4096 = omega (arith, fits dec _ v.in-Vote.is refl, count-votes w) in
-          by-case o v.in-Vote.is v.rows-is v.keys-is v.heads-is v.nexts-is v.held-is v.end-is
+          let room : w.vote_count < 4096 = omega (arith, fits dec _ (v.in-Ok.is ∙ ap Ok v.in-Vote.is) refl, count-votes w) in
+          by-case o (v.in-Ok.is ∙ ap Ok v.in-Vote.is) v.rows-is v.keys-is v.heads-is v.nexts-is v.held-is v.end-is
           (with_vote_lem w so (sound dec).typed.votes _ room key.1 key.2
           (v.put_first.ensures.0 ∙ ap (set c.loop-records.keys w.vote_count) key.0) v.put_first.ensures.1)
-          (entry-written o (decided-as dec v.in-Vote.is) taken-entry)
-      | in-Bundle+else-loop-p-test b ↦
-          let left = bundle-left o _ _ b.in-Bundle.is b.loop-p.invariant b.loop-p-test.false in
+          (entry-written o (decided-as dec (v.in-Ok.is ∙ ap Ok v.in-Vote.is)) taken-entry)
+      | in-Ok+in-Bundle+else-loop-p-test b ↦
+          let left = bundle-left o _ _ (b.in-Ok.is ∙ ap Ok b.in-Bundle.is) b.loop-p.invariant b.loop-p-test.false in
           transport (λ i. Leaves o (sym b.rows-is i) (sym b.keys-is i) (sym b.heads-is i) (sym b.nexts-is i) (sym b.held-is i) (sym b.end-is i)) left
-      | in-Quorum q ↦
-          by-case o q.in-Quorum.is q.rows-is q.keys-is q.heads-is q.nexts-is q.held-is q.end-is (without_vote w so _ refl)
-          (entry-written o (decided-as dec q.in-Quorum.is) taken-entry)
-      | in-Nothing n ↦ by-case o n.in-Nothing.is n.rows-is n.keys-is n.heads-is n.nexts-is n.held-is n.end-is so (entry-written o (decided-as dec n.in-Nothing.is) nothing-entry)
-      | in-Refuse n ↦
-          by-case o n.in-Refuse.is n.rows-is n.keys-is n.heads-is n.nexts-is n.held-is n.end-is so
-          (entry-written o (decided-as dec n.in-Refuse.is) (refused-entry _))
+      | in-Ok+in-Quorum q ↦
+          by-case o (q.in-Ok.is ∙ ap Ok q.in-Quorum.is) q.rows-is q.keys-is q.heads-is q.nexts-is q.held-is q.end-is (without_vote w so _ refl)
+          (entry-written o (decided-as dec (q.in-Ok.is ∙ ap Ok q.in-Quorum.is)) taken-entry)
+      | in-Ok+in-Nothing n ↦ by-case o (n.in-Ok.is ∙ ap Ok n.in-Nothing.is) n.rows-is n.keys-is n.heads-is n.nexts-is n.held-is n.end-is so (entry-written o (decided-as dec (n.in-Ok.is ∙ ap Ok n.in-Nothing.is)) nothing-entry)
+      | in_default n ↦
+          by-case o n.in_default.is n.rows-is n.keys-is n.heads-is n.nexts-is n.held-is n.end-is so
+          (entry-written o (decided-as dec n.in_default.is) (refused-entry _))
     ]
 
 pub overflow_add-next-in-loop-records : goal.overflow_add-next-in-loop-records

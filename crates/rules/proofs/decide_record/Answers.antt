@@ -6,6 +6,7 @@ use mathlib.Core.Bool.{◌||◌}
 use native.Mathlib.Omega.{arith}
 use lib.Dec.{ltb}
 use lib.ListN.{length, drop, get_or}
+use Rattle.std.specs.Prelude.{Result}
 use Rattle.model.specs.Answer.{Answer}
 use Rattle.model.specs.Change.{Change, single}
 use Rattle.model.specs.Decide.{members_fixed, decide_record, decide}
@@ -13,6 +14,7 @@ use Rattle.model.specs.Log.{Kind, kind_of, size_of, decode_as, record_size}
 use Rattle.model.specs.Model.{Model}
 use Rattle.model.specs.declared.Height.{Height}
 use Rattle.model.specs.declared.Place.{Place}
+use Rattle.model.specs.declared.Refusal.{Refusal}
 use Rattle.model.proofs.Log.{none-at, cut_at, whole-at, other-kind}
 use Rattle.tables.specs.Places.{height_at}
 use Rattle.state.specs.Tables.{Held}
@@ -59,7 +61,7 @@ by_kind c m {k} e =
     sym (ap (decide_record m) ((whole-at (at (goal.at.Else-log-at-2 c).Else-log-at-2) (log (goal.at.Else-log-at-2 c).Else-log-at-2) c.if-log-at.false (fits (goal.at.Else-log-at-2 c).Else-log-at-2)).decoded ∙ ap (λ (j : Kind). decode_as j s) e))
 
 -- what one record's rows decide is no bundle
-alone : (c : Else-log-at-2) (m : Model) {k : Kind} (d : Decision) (a : Answer Change) → kind_of (kind (goal.at.Else-log-at-2 c).Else-log-at-2) ≡ k
+alone : (c : Else-log-at-2) (m : Model) {k : Kind} (d : Result Decision Refusal) (a : Answer Change) → kind_of (kind (goal.at.Else-log-at-2 c).Else-log-at-2) ≡ k
     → (let s = drop (at (goal.at.Else-log-at-2 c).Else-log-at-2) (log (goal.at.Else-log-at-2 c).Else-log-at-2) in (decision_of m s d ≡ single a) × (single a ≡ decide_record m (decode_as k s)))
     → let s = drop (at (goal.at.Else-log-at-2 c).Else-log-at-2) (log (goal.at.Else-log-at-2 c).Else-log-at-2) in (decision_of m s d ≡ decide m s) × BitsFit c.args.counts.members s d
 alone c m {k} d a e is = (is.0 ∙ is.1 ∙ by_kind (goal.at.Else-log-at-2 c).Else-log-at-2 m e, single-fits m _ _ a d is.0)

@@ -7,6 +7,7 @@ use mathlib.Core.Bool.{Bool, not}
 use borrow.Author.Tests.{lt-ltb, le-ltb}
 use lib.Dec.{ltb}
 use lib.ListN.{drop}
+use Rattle.std.proofs.lemmas.Result.{err_from_is_err_and}
 use Rattle.model.specs.Answer.{Answer, row, and_then}
 use Rattle.model.specs.Bytes.{field, part}
 use Rattle.model.specs.Decide.{link_of, cast, vote_of}
@@ -26,8 +27,8 @@ s c = drop c.args.at c.args.log.now
 abbrev Holds : Start → Model → Type 0
 Holds c m = let a = c.args in Held m a.counts a.ids.now a.names.now a.parents a.heights a.keys.now
 
-id-is : (c : After-find_id) → field 1 2 (s (goal.at.After-find_id c).Start) ≡ c.be16-id.result
-id-is c = let a = c.args in field_at a.at 1 2 a.log.now ∙ sym c.be16-id.ensures
+id-is : (c : After-find_id) → field 1 2 (s (goal.at.After-find_id c).Start) ≡ c.be16-voter.result
+id-is c = let a = c.args in field_at a.at 1 2 a.log.now ∙ sym c.be16-voter.ensures
 
 member-held : (c : After-find_id) {m : Model} → Holds (goal.at.After-find_id c).Start m
     → id_held m (field 1 2 (s (goal.at.After-find_id c).Start)) ≡ ltb c.find_id.result c.args.counts.members
@@ -43,19 +44,29 @@ pub returns-then-counts-find_id : goal.returns-then-counts-find_id
 unfolding row
 returns-then-counts-find_id c =
     λ m held.
-    let found = c.before.before in
     let t = s (goal.at.returns-then-counts-find_id c).Start in
     sym (by-member m _ (part 3 32 t) (part 35 32 t) _ _ (member-held (goal.at.returns-then-counts-find_id c).After-find_id held ∙ le-ltb _ _ c.if-counts-find_id.true))
 
+pub returns-in_err-link : goal.returns-in_err-link
+unfolding row and_then
+returns-in_err-link c =
+    λ m held.
+    let p = err_from_is_err_and c.from_residual.result c.from_residual.ensures.1 in
+    let found = (goal.at.returns-in_err-link c).After-find_id in
+    let a = c.args in
+    rw (p.1, p.2)
+    (ap (λ (l : Answer Link). and_then l (cast m (field 1 2 (s (goal.at.returns-in_err-link c).Start))))
+    (c.in_err-link.ensures m held.names-held held.heights-held held.ancestors_held ∙ link-read m a.at 3 a.log.now)
+    ∙ sym (by-member m _ _ _ _ _ (member-held found held ∙ lt-ltb _ _ c.if-counts-find_id.false)))
+
 pub returns : goal.returns
-unfolding row
+unfolding row and_then
 returns c =
     λ m held.
-    let linked = c.before in
     let found = (goal.at.returns c).After-find_id in
     let a = c.args in
     c.cast.ensures m held.keys_held
     ∙ ap₂ (λ (l : Answer Link) (id : ℕ). and_then l (cast m id))
-    (linked.link_of-link.ensures m held.names-held held.heights-held held.ancestors_held ∙ link-read m a.at 3 a.log.now)
+    (c.in_ok-link.ensures m held.names-held held.heights-held held.ancestors_held ∙ link-read m a.at 3 a.log.now)
     (sym (id-is (goal.at.returns c).After-find_id))
-    ∙ sym (by-member m _ _ _ _ _ (member-held (goal.at.returns c).After-find_id held ∙ lt-ltb _ _ linked.if-counts-find_id.false))
+    ∙ sym (by-member m _ _ _ _ _ (member-held found held ∙ lt-ltb _ _ c.if-counts-find_id.false))

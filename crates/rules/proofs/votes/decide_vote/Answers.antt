@@ -1,26 +1,28 @@
 -- `rules::votes::decide_vote` meets its contract: rows 30 to 35 by `vote_of`, then 36 by `room`. Assumes nothing.
-use mathlib.Core.Path.{◌≡◌, sym, ap, ◌∙◌}
-use lib.ListN.{drop}
+use mathlib.Core.Path.{ap, ◌∙◌}
+use Rattle.std.proofs.lemmas.Result.{err_from_is_err_and}
 use Rattle.model.specs.Answer.{and_then}
-use Rattle.model.specs.Bytes.{field, part}
 use Rattle.model.specs.Change.{single}
 use Rattle.model.specs.Decide.{room, decide_vote}
-use Rattle.model.specs.Model.{Model}
-use Rattle.state.specs.Tables.{Held}
-use Rattle.ballots.specs.Ballot.{change_of}
 use Rattle.rules.proofs.votes.decide_vote.Goals as goal
-use Rattle.rules.proofs.votes.decide_vote.Goals.{After-room}
 
--- what the rows make of the vote
-made : (c : After-room) (m : Model)
-    → (let a = c.args in Held m a.counts a.ids.now a.names.now a.parents a.heights a.keys.now)
-    → let s = drop c.args.at c.args.log.now in
-    change_of c.room.result ≡ decide_vote m (field 1 2 s) (part 3 32 s) (part 35 32 s) (field 67 4 s) (field 71 4 s)
-unfolding decide_vote
-made c m held = c.room.ensures m held.keys_held.count ∙ ap (λ a. and_then a (room m)) (c.vote_of-ballot.ensures m held)
+pub returns-in_err-passed : goal.returns-in_err-passed
+unfolding decide_vote and_then
+returns-in_err-passed c =
+    λ m held.
+    let p = err_from_is_err_and c.from_residual.result c.from_residual.ensures.1 in
+    rw (p.1, p.2) (ap (λ a. single (and_then a (room m))) (c.in_err-passed.ensures m held))
 
-pub returns-in-Refuse : goal.returns-in-Refuse
-returns-in-Refuse c = λ m held. ap single (sym (ap change_of c.in-Refuse.is) ∙ made (goal.at.returns-in-Refuse c).After-room m held)
+pub returns-in_err-ballot : goal.returns-in_err-ballot
+unfolding decide_vote and_then
+returns-in_err-ballot c =
+    λ m held.
+    let p = err_from_is_err_and c.from_residual-in_err-ballot.result c.from_residual-in_err-ballot.ensures.1 in
+    rw (p.1, p.2)
+    (ap single (c.in_err-ballot.ensures m held.keys_held.count ∙ ap (λ a. and_then a (room m)) (c.in_ok-passed.ensures m held)))
 
-pub returns-in-Cast : goal.returns-in-Cast
-returns-in-Cast c = λ m held. ap single (sym (ap change_of c.in-Cast.is) ∙ made (goal.at.returns-in-Cast c).After-room m held)
+pub returns : goal.returns
+unfolding decide_vote and_then
+returns c =
+    λ m held.
+    ap single (c.in_ok-ballot.ensures m held.keys_held.count ∙ ap (λ a. and_then a (room m)) (c.in_ok-passed.ensures m held))
