@@ -22,6 +22,13 @@ impl Mark {
         justified: false,
         finalizing: false,
     };
+
+    // Whether the place is final.
+    pub fn is_final(self) -> bool
+        ensures { result ≡ (self.justified && self.finalizing) }
+    {
+        self.justified & self.finalizing
+    }
 }
 
 // Whether a link with a quorum leads on from a justified place: `voters` has those of the link from each place below
