@@ -3,10 +3,13 @@ use Prim.Native.Nat.{ℕ, ◌+◌, ◌<◌, ◌≤◌}
 use native.Mathlib.Omega.{arith}
 use mathlib.Core.Path.{◌≡◌, refl, sym, ap, ap₂, ◌∙◌, subst}
 use mathlib.Core.List.{List, [], ◌∷◌}
-use mathlib.Core.Bool.{Bool, false, ◌||◌}
+use mathlib.Core.Bool.{Bool, true, false, ◌||◌}
+use borrow.Author.Tests.{lt-ltb, le-ltb}
 use lib.ListN.{length, get_or, set, take, length-append}
 use lib.Seq.{length-take-le, get_or-take, get_or-set_same, get_or-set_other}
 use lib.Dec.{eqb, ltb}
+use Rattle.std.specs.Prelude.{Option, Some, None, MatchOption}
+use Rattle.std.specs.Option.{is_some}
 use Rattle.model.specs.Change.{append}
 use Rattle.model.specs.Lists.{tabulate, first_index, same_bytes}
 use Rattle.model.specs.Model.{Model, Member, Checkpoint, Vote, no_member, no_checkpoint, member_index, place_of, checkpoint_at, id_held, vote_held, same_vote}
@@ -84,6 +87,23 @@ module _ (w : Witness) where
 pub held-id : {m : Model} {ids : List ℕ} {n : ℕ} (id : ℕ) {r : ℕ} → MembersHeld m ids n → r ≡ first_index (λ x. eqb x id) (take n ids) → id_held m id ≡ ltb r n
 unfolding id_held
 held-id {n = n} id {r} h e = ap₂ ltb (h.index id ∙ sym e) h.count
+
+-- the same, by what the search among the n ids in front gave
+module _ {m : Model} {ids : List ℕ} {n : ℕ} (id : ℕ) (h : MembersHeld m ids n) (fit : n ≤ length ids) where
+  pub id-none : first_index (λ x. eqb x id) (take n ids) ≡ length (take n ids) → id_held m id ≡ false
+  id-none e = held-id id h refl ∙ le-ltb _ n (omega (arith, e, length-take-le n ids fit))
+
+  pub id-some : {i : ℕ}
+      → (i ≡ first_index (λ x. eqb x id) (take n ids)) × (i < length (take n ids))
+      → id_held m id ≡ true
+  id-some so = held-id id h so.0 ∙ lt-ltb _ n (omega (arith, so.1, length-take-le n ids fit))
+
+  pub id-found : (r : Option ℕ)
+      → MatchOption r (first_index (λ x. eqb x id) (take n ids) ≡ length (take n ids))
+      (λ i. (i ≡ first_index (λ x. eqb x id) (take n ids)) × (i < length (take n ids)))
+      → id_held m id ≡ is_some r
+  id-found None e = id-none e
+  id-found (Some i) so = id-some so
 
 -- ---- the votes' numbers, once more is held
 
