@@ -1,18 +1,11 @@
--- Tests in a row: the first that fails ends it, and where those before it pass the last decides.
+-- Tests in a row, each asked only where those before it pass.
 use mathlib.Core.Path.{◌≡◌, sym, ap, ◌∙◌}
-use mathlib.Core.Bool.{Bool, true, false, ◌&&◌, not}
-use borrow.Author.Tests.{not-true, not-false}
+use mathlib.Core.Bool.{Bool, true, false, ◌&&◌}
 
--- a test `a` that was asked for, at the two ways on
+-- `asked` is a, the test so far, and where that is true `next` is b
 module _ {asked a : Bool} (is : asked ≡ a) where
-  pub failed : not asked ≡ true → a ≡ false
-  failed e = sym is ∙ not-true _ e
+  pub goes-on : {next b : Bool} → asked ≡ true → next ≡ b → next ≡ (a && b)
+  goes-on {b = b} e so = so ∙ ap (λ (x : Bool). x && b) (sym e ∙ is)
 
-  pub passed : not asked ≡ false → a ≡ true
-  passed e = sym is ∙ not-false _ e
-
-pub fails : {a : Bool} (b : Bool) → a ≡ false → (a && b) ≡ false
-fails b e = ap (λ (x : Bool). x && b) e
-
-pub decides : {a b r : Bool} → a ≡ true → r ≡ b → r ≡ (a && b)
-decides {b = b} e d = d ∙ sym (ap (λ (x : Bool). x && b) e)
+  pub ends : (b : Bool) → asked ≡ false → asked ≡ (a && b)
+  ends b e = e ∙ ap (λ (x : Bool). x && b) (sym e ∙ is)

@@ -5,7 +5,8 @@ use mathlib.Core.Path.{◌≡◌, refl, sym, ap, ap₂, ◌∙◌}
 use mathlib.Core.List.{List}
 use mathlib.Core.Bool.{Bool, true, false, ◌&&◌, ◌||◌, not}
 use borrow.Author.Tests.{ltb-true, leb-true}
-use lib.ListN.{length}
+use lib.ListN.{length, take}
+use lib.Seq.{length-take-le}
 use lib.Dec.{eqb, ltb, leb}
 use Rattle.model.specs.Limits.{bond_limit, member_limit, checkpoint_limit, vote_limit, root_height_limit}
 use Rattle.model.specs.Lists.{all_below, pair_below, same_bytes}
@@ -16,12 +17,14 @@ use Rattle.model.specs.WellFormed.{bonds?, id_twice?, steps?, name_twice?, vote_
 use Rattle.model.proofs.Lists.{and_left, and_right}
 use Rattle.tables.specs.Places.{Falling, place_at, height_at, is_step, is_sound}
 use Rattle.tables.proofs.Steps.{sound-falls}
+use Rattle.tables.proofs.Taken.{falling-taken}
 use Rattle.search.proofs.Pointwise.{all_same, pair_same}
-use Rattle.state.specs.Sound.{sound?}
+use Rattle.state.specs.Sound.{Typed, sound?}
 use Rattle.state.specs.State.{rule_of, quota_in, model_of, vote_in}
 use Rattle.state.specs.declared.Witness.{Witness}
 use Rattle.state.proofs.Held.{held-id, members-held, rule-held, ancestors_held}
 use Rattle.state.proofs.Entries.{count-members, count-checkpoints, count-votes, member_is, checkpoint-is, vote-is}
+use Rattle.sound.proofs.Lent.{members-lent, tree-lent, votes-lent}
 use Rattle.sound.specs.Parts.{counts_pass, members_pass, tree_passes, votes_pass}
 
 -- a test of the entries of a list is the test of what they are
@@ -147,3 +150,64 @@ module _ (w : Witness) where
       (all_are (count-votes w) (vote-is w) (λ k v. vote? (model_of w) v)
       ∙ all_same w.vote_count _ _ (λ k h. vote-sound fits (vote_in w k)))
       (pairs_are (count-votes w) (vote-is w) same_vote)
+
+  -- ---- the parts in their order, asked of the entries that are lent
+
+  abbrev pub first_two : Bool
+  first_two = permitted? (quota (model_of w)) && counts? (model_of w)
+
+  abbrev pub first-three : Bool
+  first-three = first_two && members? (model_of w).members
+
+  abbrev pub first_four : Bool
+  first_four = first-three && tree? (model_of w).checkpoints
+
+  pub few-held : first_two ≡ true → Few w
+  few-held e = few w (sym counts_are ∙ and_right (permitted? (quota (model_of w))) (counts? (model_of w)) e)
+
+  module _ (typed : Typed w) (held : Few w) where
+    members-fit : w.member_count ≤ length w.ids
+    members-fit = omega (arith, held.members, typed.members.ids)
+
+    checkpoints-fit : w.checkpoint_count ≤ length w.parents
+    checkpoints-fit = omega (arith, held.checkpoints, typed.tree.parents)
+
+    votes-fit : w.vote_count ≤ length w.voters
+    votes-fit = omega (arith, held.votes, typed.votes.voters)
+
+    pub members-asked : members_pass (take w.member_count w.ids) (take w.member_count w.bonds) (length (take w.member_count w.ids))
+        ≡ members? (model_of w).members
+    members-asked = members-lent w.member_count w.ids w.bonds members-fit ∙ sym members_are
+
+    pub tree-asked : tree_passes w.names (take w.checkpoint_count w.parents) (take w.checkpoint_count w.heights)
+        (length (take w.checkpoint_count w.parents))
+        ≡ tree? (model_of w).checkpoints
+    tree-asked =
+        tree-lent w.checkpoint_count w.names w.parents w.heights held.rooted checkpoints-fit ∙ sym (tree_is held.rooted)
+
+    pub votes-asked : votes_pass (take w.member_count w.ids) (length (take w.member_count w.ids))
+        (take w.checkpoint_count w.parents) (length (take w.checkpoint_count w.parents))
+        (take w.vote_count w.voters) (take w.vote_count w.sources) (take w.vote_count w.targets)
+        (length (take w.vote_count w.voters))
+        ≡ votes? (model_of w)
+    votes-asked =
+        votes-lent w.member_count w.ids w.checkpoint_count w.parents w.vote_count w.voters w.sources w.targets
+        members-fit checkpoints-fit votes-fit
+        ∙ sym (votes_are members-fit)
+
+    -- what the votes' part counts on
+    pub votes-counted : tree? (model_of w).checkpoints ≡ true
+        → Falling (length (take w.checkpoint_count w.parents)) (take w.checkpoint_count w.parents)
+        × (length (take w.vote_count w.voters) ≤ length (take w.vote_count w.sources))
+        × (length (take w.vote_count w.voters) ≤ length (take w.vote_count w.targets))
+        × (length (take w.vote_count w.voters) ≤ vote_limit)
+    votes-counted e =
+        let sources = length-take-le w.vote_count w.sources (omega (arith, votes-fit, typed.votes)) in
+        let targets = length-take-le w.vote_count w.targets (omega (arith, votes-fit, typed.votes)) in
+        let voters = length-take-le w.vote_count w.voters votes-fit in (
+          rw (length-take-le w.checkpoint_count w.parents checkpoints-fit)
+              (falling-taken w.checkpoint_count w.parents (falls (sym (tree_is held.rooted) ∙ e))),
+          omega arith,
+          omega arith,
+          omega (arith, held.votes),
+        )

@@ -2,7 +2,7 @@
 // of the rule for a quorum stands in crate state.
 #![tactic(auto)]
 
-ghost use Rattle.std.specs.Prelude.{◌≡◌, ◌*◌, ◌≤◌, length};
+ghost use Rattle.std.specs.Prelude.{◌≡◌, ◌*◌, ◌<◌, ◌≤◌, length};
 ghost use Rattle.model.specs.Limits.{checkpoint_limit, vote_limit};
 ghost use Rattle.state.specs.Sound.{Typed, sound?};
 ghost use Rattle.tables.specs.Places.{Falling};
@@ -23,101 +23,63 @@ fn counts_pass(members: usize, checkpoints: usize, votes: usize) -> bool
 }
 
 // Each bond is in range, and no id is held twice.
-fn members_pass<'a>(ids: &'a [u16], bonds: &'a [u64], count: usize) -> bool
-    requires { (count ≤ length ids.now) × (count ≤ length bonds.now) }
-    ensures { result ≡ members_pass ids.now bonds.now count }
+fn members_pass(ids: &[u16], bonds: &[u64]) -> bool
+    requires { length bonds.now ≡ length ids.now }
+    ensures { result ≡ members_pass ids.now bonds.now (length ids.now) }
 {
-    if !tables::members::bonds_in_range(bonds, count) {
-        return false;
-    }
-    !tables::members::ids_twice(ids, count)
+    tables::members::bonds_in_range(bonds) && !tables::members::ids_twice(ids)
 }
 
 // The root is low enough, each other checkpoint is one step above its parent, and no name is held twice.
-fn tree_passes(
-    names: &[u8],
-    parents: [Place; MAX_CHECKPOINTS],
-    heights: [Height; MAX_CHECKPOINTS],
-    count: usize,
-) -> bool
-    requires { (32 * count ≤ length names.now) × (count ≤ checkpoint_limit) }
-    ensures { result ≡ tree_passes names.now parents heights count }
+fn tree_passes(names: &[u8], parents: &[Place], heights: &[Height]) -> bool
+    requires { (32 * length parents.now ≤ length names.now)
+        × (0 < length parents.now)
+        × (length parents.now ≤ length heights.now)
+        × (length parents.now ≤ checkpoint_limit) }
+    ensures { result ≡ tree_passes names.now parents.now heights.now (length parents.now) }
 {
-    let root = heights[0];
-    if MAX_ROOT_HEIGHT < root.0 {
-        return false;
-    }
-    if !tables::tree::tree_sound(parents, heights, count) {
-        return false;
-    }
-    !names::names_twice(names, count)
+    heights[0].0 <= MAX_ROOT_HEIGHT
+        && tables::tree::tree_sound(parents, heights)
+        && !names::names_twice(names, parents.len())
 }
 
 // Each vote is of a held member, between held places, from an ancestor, and none is held twice.
-fn votes_pass<'a>(
-    ids: &'a [u16],
-    members: usize,
-    parents: [Place; MAX_CHECKPOINTS],
-    checkpoints: usize,
-    voters: &'a [u16],
-    sources: [Place; MAX_VOTES],
-    targets: [Place; MAX_VOTES],
-    count: usize,
+fn votes_pass(
+    ids: &[u16],
+    parents: &[Place],
+    voters: &[u16],
+    sources: &[Place],
+    targets: &[Place],
 ) -> bool
-    requires { (members ≤ length ids.now)
-        × (checkpoints ≤ checkpoint_limit)
-        × Falling checkpoints parents
-        × (count ≤ length voters.now)
-        × (count ≤ vote_limit) }
-    ensures { result ≡ votes_pass ids.now members parents checkpoints voters.now sources targets count }
+    requires { Falling (length parents.now) parents.now
+        × (length voters.now ≤ length sources.now)
+        × (length voters.now ≤ length targets.now)
+        × (length voters.now ≤ vote_limit) }
+    ensures { result
+        ≡ votes_pass ids.now (length ids.now) parents.now (length parents.now) voters.now sources.now targets.now
+        (length voters.now) }
 {
-    if !tables::votes::votes_sound(
-        ids,
-        members,
-        parents,
-        checkpoints,
-        voters,
-        sources,
-        targets,
-        count,
-    ) {
-        return false;
-    }
-    !tables::votes::votes_twice(voters, sources, targets, count)
+    tables::votes::votes_sound(ids, parents, voters, sources, targets)
+        && !tables::votes::votes_twice(voters, sources, targets)
 }
 
 // Whether the state passes row 40; and, for the callers' proofs, what its types say.
 pub fn is_sound(w: Witness) -> bool
     ensures { (result ≡ sound? w) × Typed w }
 {
-    let numbers = w.numbers;
-    if !is_permitted(quota_of(numbers)) {
-        return false;
-    }
-    let members = w.member_count;
-    let checkpoints = w.checkpoint_count;
-    let votes = w.vote_count;
-    if !counts_pass(members, checkpoints, votes) {
-        return false;
-    }
-    if !members_pass(&w.ids, &w.bonds, members) {
-        return false;
-    }
-    let parents = w.parents;
-    let heights = w.heights;
-    if !tree_passes(&w.names, parents, heights, checkpoints) {
-        return false;
-    }
-    let sources = w.sources;
-    let targets = w.targets;
-    votes_pass(
-        &w.ids,
-        members,
-        parents,
-        checkpoints,
-        &w.voters,
-        sources,
-        targets,
-        votes,
-    )
+    is_permitted(quota_of(w.numbers))
+        && counts_pass(w.member_count, w.checkpoint_count, w.vote_count)
+        && members_pass(&w.ids[..w.member_count], &w.bonds[..w.member_count])
+        && tree_passes(
+            &w.names,
+            &w.parents[..w.checkpoint_count],
+            &w.heights[..w.checkpoint_count],
+        )
+        && votes_pass(
+            &w.ids[..w.member_count],
+            &w.parents[..w.checkpoint_count],
+            &w.voters[..w.vote_count],
+            &w.sources[..w.vote_count],
+            &w.targets[..w.vote_count],
+        )
 }
