@@ -1,12 +1,15 @@
 -- What rows 50 to 56 come to, once each test is known: the code's tests, one by one, are the rows.
 use Prim.Native.Nat.{ℕ, suc, ◌+◌, ◌*◌, ◌<◌, ◌≤◌}
 use native.Mathlib.Omega.{arith}
-use mathlib.Core.Path.{◌≡◌, sym, ap, ap₂}
+use mathlib.Core.Path.{◌≡◌, sym, ap, ap₂, ◌∙◌}
 use mathlib.Core.List.{List, [], ◌∷◌}
 use mathlib.Core.Bool.{Bool, true, false, ◌&&◌, ◌||◌, not}
 use borrow.Author.Tests.{eqb-true, eq-eqb, ne_eqb, ltb-true, ltb-false, lt-ltb, le-ltb}
 use lib.ListN.{length, get_or, take, drop}
 use lib.Dec.{eqb, ltb}
+use Rattle.std.specs.Borrow.{Bor}
+use Rattle.std.specs.Option.{option_eq, option_map, unwrap_or, is_some}
+use Rattle.std.specs.Prelude.{Option, Some, None}
 use Rattle.model.specs.Answer.{row}
 use Rattle.model.specs.Bytes.{field, part, ascii}
 use Rattle.model.specs.Checker.{entries, own_vote?, check_from, check}
@@ -60,6 +63,15 @@ module _ {m : Model} {voters : List ℕ} {n : ℕ} (held : VotersHeld m voters n
   pub own-here : (k : ℕ) → k < n → own_vote? m id k ≡ eqb (get_or voters k 0) id
   unfolding own_vote?
   own-here k h = ap₂ (λ (b : Bool) (v : ℕ). b && eqb v id) (lt-ltb k _ (omega (arith, held.count))) (held.voter k h)
+
+-- what stands in the slice of exactly these at k, compared with the id
+module _ {m : Model} {voters : List ℕ} (held : VotersHeld m voters (length voters)) where
+  pub own-read : (k : ℕ) (id : Bor ℕ) (o : Option (Bor ℕ)) → is_some o ≡ ltb k (length voters)
+      → unwrap_or (option_map (λ (x : Bor ℕ). x.now) o) 0 ≡ get_or voters k 0
+      → option_eq (λ x y. eqb x.now y.now) o (Some id) ≡ own_vote? m id.now k
+  own-read k id None some read = sym (own-past held id.now k (ltb-false k (length voters) (sym some)))
+  own-read k id (Some x) some read =
+      ap (λ (v : ℕ). eqb v id.now) read ∙ sym (own-here held id.now k (ltb-true k (length voters) (sym some)))
 
 record Own (m : Model) (id k : ℕ) : Type 0 where
   inside : k < length m.votes

@@ -39,41 +39,36 @@ pub fn header_of(list: &[u8]) -> Result<usize, Refusal>
 }
 
 // Whether the vote with this number is held, and this member's.
-fn own_vote(voters: &[u16], votes: usize, id: u16, number: usize) -> bool
-    requires { votes ≤ length voters.now }
-    ensures { (m : Model) → VotersHeld m voters.now votes → result ≡ own_vote? m id number }
+fn own_vote(voters: &[u16], id: u16, number: usize) -> bool
+    ensures { (m : Model) → VotersHeld m voters.now (length voters.now) → result ≡ own_vote? m id number }
 {
-    if votes <= number {
-        return false;
-    }
-    voters[number] == id
+    voters.get(number) == Some(&id)
 }
 
-// Rows 53 to 56 of the entry at `at`; `floor` is one more than the id before, and 0 for the first.
+// Rows 53 to 56 of the entry at `at`; `floor` is one more than the id before, and 0 for the first. The ids and the
+// voters are those of the members and the votes that are held.
 pub fn find_pair<'a>(
     ids: &'a [u16],
-    members: usize,
     voters: &'a [u16],
-    votes: usize,
     list: &[u8],
     at: usize,
     floor: u32,
 ) -> Result<Pair, Refusal>
-    requires { (members ≤ length ids.now) × (votes ≤ length voters.now) × (at + 6 ≤ length list.now) }
-    ensures { (m : Model) → MembersHeld m ids.now members → VotersHeld m voters.now votes → FoundIs m
-        floor (entry_at at list.now) result }
+    requires { at + 6 ≤ length list.now }
+    ensures { (m : Model) → MembersHeld m ids.now (length ids.now) → VotersHeld m voters.now (length voters.now)
+        → FoundIs m floor (entry_at at list.now) result }
 {
     let id = wire::be16(list, at);
     if (id as u32) < floor {
         return Err(Refusal::IdNotRising);
     }
-    let member = tables::find_id(ids, members, id);
-    if members <= member {
+    let member = tables::find_id(ids, ids.len(), id);
+    if ids.len() <= member {
         return Err(Refusal::ChargedNotHeld);
     }
     let earlier = wire::be16(list, at + 2) as usize;
     let later = wire::be16(list, at + 4) as usize;
-    let own = own_vote(voters, votes, id, earlier) & own_vote(voters, votes, id, later);
+    let own = own_vote(voters, id, earlier) & own_vote(voters, id, later);
     if !own {
         return Err(Refusal::NotOwnVote);
     }

@@ -15,13 +15,13 @@ returns-then-id-floor c =
     entry-rows m a.floor a.at a.list.now c.be16-id.ensures refl refl
     (lt-ltb _ _ c.if-id-floor.true) refl refl refl
 
-pub returns-then-members-member : goal.returns-then-members-member
+pub returns-then-ids-member : goal.returns-then-ids-member
 unfolding row
-returns-then-members-member c =
+returns-then-ids-member c =
     λ m ids voters.
     let a = c.args in
     entry-rows m a.floor a.at a.list.now c.be16-id.ensures refl refl
-    (le-ltb _ _ c.if-id-floor.false) (held-id _ ids c.find_id-member.ensures ∙ le-ltb _ _ c.if-members-member.true) refl refl
+    (le-ltb _ _ c.if-id-floor.false) (held-id _ ids c.find_id-member.ensures ∙ le-ltb _ _ c.if-ids-member.true) refl refl
 
 pub returns-then-not-own : goal.returns-then-not-own
 unfolding row
@@ -31,7 +31,7 @@ returns-then-not-own c =
     let a = c.args in
     entry-rows m a.floor a.at a.list.now c.be16-id.ensures c.be16-earlier.ensures c.be16-later.ensures
     (le-ltb _ _ c.if-id-floor.false)
-    (held-id _ ids c.find_id-member.ensures ∙ lt-ltb _ _ c.if-members-member.false)
+    (held-id _ ids c.find_id-member.ensures ∙ lt-ltb _ _ c.if-ids-member.false)
     (sym (ap₂ ◌&&◌ (c.own_vote.ensures m voters) (c.own_vote-2.ensures m voters))
     ∙ c.if-not-own.true)
     refl
@@ -44,7 +44,7 @@ returns-then-later-earlier c =
     let a = c.args in
     entry-rows m a.floor a.at a.list.now c.be16-id.ensures c.be16-earlier.ensures c.be16-later.ensures
     (le-ltb _ _ c.if-id-floor.false)
-    (held-id _ ids c.find_id-member.ensures ∙ lt-ltb _ _ c.if-members-member.false)
+    (held-id _ ids c.find_id-member.ensures ∙ lt-ltb _ _ c.if-ids-member.false)
     (sym (ap₂ ◌&&◌ (c.own_vote.ensures m voters) (c.own_vote-2.ensures m voters))
     ∙ c.if-not-own.false)
     (le-ltb _ _ c.if-later-earlier.true)
@@ -57,7 +57,7 @@ returns c =
     pair_found m a.floor a.at a.list.now c.be16-id.ensures c.be16-earlier.ensures c.be16-later.ensures
     (c.find_id-member.ensures ∙ sym (ids.index _))
     (le-ltb _ _ c.if-id-floor.false)
-    (held-id _ ids c.find_id-member.ensures ∙ lt-ltb _ _ c.if-members-member.false)
+    (held-id _ ids c.find_id-member.ensures ∙ lt-ltb _ _ c.if-ids-member.false)
     (sym (ap₂ ◌&&◌ (c.own_vote.ensures m voters) (c.own_vote-2.ensures m voters))
     ∙ c.if-not-own.false)
     (lt-ltb _ _ c.if-later-earlier.false)
