@@ -62,10 +62,9 @@ pub fn find_pair<'a>(
     if (id as u32) < floor {
         return Err(Refusal::IdNotRising);
     }
-    let member = tables::find_id(ids, ids.len(), id);
-    if ids.len() <= member {
+    let Some(member) = tables::find_id(ids, id) else {
         return Err(Refusal::ChargedNotHeld);
-    }
+    };
     let earlier = wire::be16(list, at + 2) as usize;
     let later = wire::be16(list, at + 4) as usize;
     let own = own_vote(voters, id, earlier) & own_vote(voters, id, later);

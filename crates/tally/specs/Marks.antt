@@ -1,5 +1,5 @@
 -- What is known of the places, read at a place.
-use Rattle.std.specs.Prelude.{ℕ, List, Bool, false, get_or}
+use Rattle.std.specs.Prelude.{ℕ, List, Bool, false, ◌&&◌, get_or}
 use Rattle.tally.specs.declared.links.Mark.{Mark}
 
 -- what is known of a place; nothing past the end
@@ -11,3 +11,7 @@ justified_at marks p = (mark_at marks p).justified
 
 abbrev pub finalizing_at : List Mark → ℕ → Bool
 finalizing_at marks p = (mark_at marks p).finalizing
+
+-- the place is final
+abbrev pub final_at : List Mark → ℕ → Bool
+final_at marks p = justified_at marks p && finalizing_at marks p
