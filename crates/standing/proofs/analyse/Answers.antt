@@ -4,13 +4,13 @@ use Rattle.state.proofs.Sound.{few-members}
 use Rattle.voters.proofs.Weights.{first_good}
 use Rattle.tally.proofs.Ready.{ready-bonds, ready-bar}
 use Rattle.standing.proofs.Turns.{turn-first, turn-walk, turn-parent, turn_more, turn_last}
-use Rattle.standing.proofs.statuses.Goals as goal
+use Rattle.standing.proofs.analyse.Goals as goal
 
 pub shared_ref_as_front-bonds : goal.shared_ref_as_front-bonds
-shared_ref_as_front-bonds c = few-members _ c.requires
+shared_ref_as_front-bonds c = few-members _ c.requires.sound
 
 pub loop-t-init : goal.loop-t-init
-loop-t-init c = turn-first c.prepare-b.ensures
+loop-t-init c = turn-first c.requires
 
 pub gather-requires-clause-walk : goal.gather-requires-clause-walk
 gather-requires-clause-walk c = turn-walk c.loop-t.invariant c.loop-t-test.true
