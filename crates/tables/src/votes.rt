@@ -9,7 +9,7 @@ ghost use Rattle.tables.specs.Keys.{pack, Packed};
 use crate::members::id_held;
 use crate::tree::is_ancestor;
 use model::{MAX_VOTES, Place};
-use search::{Links, link, numbers_twice};
+use search::{Links, numbers_twice};
 
 // A vote as one number. Two votes are the same exactly when their numbers are, since a place is of 16 bits, which a
 // caller learns here.
@@ -42,7 +42,7 @@ pub fn index(voters: &[u16], sources: &[Place], targets: &[Place]) -> Links
         × Packed voters.now sources.now targets.now (length voters.now) result.numbers }
 {
     let keys = keys(voters, sources, targets);
-    link(&keys, voters.len())
+    Links::of(&keys[..voters.len()])
 }
 
 // Whether some vote is held twice.
@@ -55,7 +55,7 @@ pub fn votes_twice(voters: &[u16], sources: &[Place], targets: &[Place]) -> bool
         (place_at sources.now j) (place_at targets.now j) i) }
 {
     let keys = keys(voters, sources, targets);
-    numbers_twice(&keys, voters.len())
+    numbers_twice(&keys[..voters.len()])
 }
 
 // Whether the vote s -> t of the member `id` is of a held member, between held places, from an ancestor.
