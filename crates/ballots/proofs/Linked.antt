@@ -1,9 +1,10 @@
 -- What rows 31 to 34 come to, once each test is known: the code's tests, one by one, are the rows.
 use Prim.Native.Nat.{ℕ, ◌+◌, ◌<◌}
 use native.Mathlib.Omega.{arith}
-use mathlib.Core.Path.{◌≡◌, sym, ap, ap₂, ◌∙◌}
+use mathlib.Core.Path.{◌≡◌, refl, sym, ap, ap₂, ◌∙◌, subst}
 use mathlib.Core.List.{List}
-use mathlib.Core.Bool.{Bool, ◌&&◌, not}
+use mathlib.Core.Bool.{Bool, true, false, ◌&&◌, not}
+use borrow.Author.Tests.{lt-ltb, le-ltb}
 use lib.ListN.{drop}
 use lib.Dec.{eqb, ltb}
 use Rattle.model.specs.Answer.{answer, row}
@@ -12,7 +13,10 @@ use Rattle.model.specs.Decide.{heights_agree, link_between, link_of}
 use Rattle.model.specs.Lists.{first_index, same_bytes}
 use Rattle.model.specs.Model.{Model, Link, link, place_of, name_held}
 use Rattle.model.specs.Tree.{ancestor?}
+use Rattle.std.specs.Prelude.{Option, Some, None, Ok, Err, MatchOption}
+use Rattle.std.specs.Option.{ok_or}
 use Rattle.model.specs.declared.Height.{Height}
+use Rattle.model.specs.declared.Refusal.{Refusal}
 use Rattle.tables.specs.Places.{height_at}
 use Rattle.names.specs.Rows.{rows}
 use Rattle.state.specs.Tables.{NamesHeld, HeightsHeld}
@@ -28,6 +32,26 @@ module _ {m : Model} {names : List ℕ} {n : ℕ} (from : ℕ) (log : List ℕ) 
       → name_held m (part from 32 log) ≡ ltb r n
   unfolding name_held
   held_at h e = ap₂ ltb (found_at h e) h.count
+
+-- what the search by name gave, in the log at `from`
+module _ {m : Model} {names : List ℕ} {n : ℕ} (from : ℕ) (log : List ℕ) (held : NamesHeld m names n) where
+  abbrev first : ℕ
+  first = first_index (λ x. same_bytes x (part from 32 log)) (rows n names)
+
+  pub held-none : first ≡ n → name_held m (part from 32 log) ≡ false
+  held-none e = held_at from log held refl ∙ le-ltb _ n (omega (arith, e))
+
+  pub held-some : {r : ℕ} → (r ≡ first) × (r < n) → name_held m (part from 32 log) ≡ true
+  held-some {r} so = held_at from log held so.0 ∙ lt-ltb r n so.1
+
+-- what was found, or the refusal where nothing was
+pub found-none : (P : Type 0) (Q : ℕ → Type 0) (e : Refusal) {x : Refusal} (r : Option ℕ) → ok_or r e ≡ Err x → MatchOption r P Q → P × (x ≡ e)
+found-none P Q e None was h = (h, cc)
+found-none P Q e (Some i) was h = let z : ◌≡◌ {A = ℕ} 0 1 = cc in absurd (omega arith)
+
+pub found-some : (P : Type 0) (Q : ℕ → Type 0) (e : Refusal) {i : ℕ} (r : Option ℕ) → ok_or r e ≡ Ok i → MatchOption r P Q → Q i
+found-some P Q e None was h = let z : ◌≡◌ {A = ℕ} 0 1 = cc in absurd (omega arith)
+found-some P Q e {i} (Some j) was h = let same : j ≡ i = cc in subst Q same h
 
 -- the link that the code found is the one named
 pub link-rows : (m : Model) (source target : List ℕ) (h k : ℕ) {b31 b32 : Bool} {s t : ℕ}

@@ -1,20 +1,26 @@
--- What the rows' leaves rely on: the lent arrays are as long as the counts say, there is a root, parents stand at
--- smaller places, a child's height fits, and the votes' numbers are in chains. Those of a sound witness are so.
-use Rattle.std.specs.Prelude.{ℕ, ◌*◌, ◌<◌, ◌≤◌, List, length}
+-- What the rows' leaves rely on: the counts are within the arrays, there is a root, parents stand at smaller places, a
+-- child's height fits, and the votes' numbers are in chains. A sound witness, with its votes' numbers, is so.
+use Rattle.std.specs.Prelude.{◌<◌, ◌≤◌, length}
 use Rattle.model.specs.Limits.{checkpoint_limit, vote_limit}
-use Rattle.model.specs.declared.Height.{Height}
-use Rattle.model.specs.declared.Place.{Place}
 use Rattle.search.specs.Chains.{Indexed}
+use Rattle.search.specs.declared.Links.{Links}
 use Rattle.tables.specs.Places.{Falling}
 use Rattle.state.specs.Tables.{Low}
-use Rattle.state.specs.declared.Counts.{Counts}
+use Rattle.state.specs.declared.Witness.{Witness}
 
-pub record Fit (n : Counts) (ids names : List ℕ) (parents : List Place) (heights : List Height) (keys heads nexts : List ℕ) : Type 0 where
-  pub ids-long : n.members ≤ length ids
-  pub names-long : 32 * n.checkpoints ≤ length names
-  pub rooted : 0 < n.checkpoints
-  pub checkpoints-fit : n.checkpoints ≤ checkpoint_limit
-  pub falling : Falling n.checkpoints parents
-  pub low : Low n.checkpoints heights
-  pub votes-fit : n.votes ≤ vote_limit
-  pub indexed : Indexed n.votes keys heads nexts
+-- what is asked of the tree of the checkpoints
+pub record FitTree (w : Witness) : Type 0 where
+  pub rooted : 0 < w.checkpoint_count
+  pub checkpoints-fit : w.checkpoint_count ≤ checkpoint_limit
+  pub falling : Falling w.checkpoint_count w.parents
+  pub low : Low w.checkpoint_count w.heights
+
+-- what is asked of the votes' numbers
+pub record FitVotes (w : Witness) (links : Links) : Type 0 where
+  pub votes-fit : w.vote_count ≤ vote_limit
+  pub indexed : Indexed w.vote_count links.numbers links.heads links.nexts
+
+pub record Fit (w : Witness) (links : Links) : Type 0 where
+  pub members-fit : w.member_count ≤ length w.ids
+  pub tree : FitTree w
+  pub votes : FitVotes w links

@@ -17,6 +17,7 @@ use Rattle.model.proofs.Lists.{first-same, length-tabulate, tabulate-at, any-tab
 use Rattle.tables.specs.Keys.{Packed}
 use Rattle.names.specs.Rows.{rows}
 use Rattle.tables.proofs.Keys.{same-pack, packed_is}
+use Rattle.search.specs.declared.Links.{Links}
 use Rattle.search.proofs.Below.{any-more}
 use Rattle.search.proofs.Pointwise.{any_same}
 use Rattle.tables.proofs.Ancestry.{tree-tabulate}
@@ -24,7 +25,7 @@ use Rattle.names.proofs.Rows.{rows-length, rows_at}
 use Rattle.state.specs.declared.Witness.{Witness}
 use Rattle.state.specs.Sound.{SizedVotes}
 use Rattle.state.specs.State.{vote_part, rule_of, quota_in, model_of, member_in, checkpoint_in, vote_in, with_vote}
-use Rattle.state.specs.Tables.{MembersHeld, NamesHeld, HeightsHeld, AncestorsHeld, key_of, KeysHeld, counts_of, Held}
+use Rattle.state.specs.Tables.{MembersHeld, NamesHeld, HeightsHeld, AncestorsHeld, key_of, KeysHeld, Held}
 use Rattle.state.proofs.Store.{store-vote}
 
 module _ (w : Witness) where
@@ -80,7 +81,7 @@ module _ (w : Witness) where
             ∙ any_same n (λ k. same_vote (vote_in w k) v) (λ k. eqb (get_or keys k 0) (key_of v)) (λ k h. sym (packed_is w.voters w.sources w.targets packed k v.voter v.source v.target h hs ht));
       }
 
-  pub all_held : {keys : List ℕ} → w.member_count ≤ length w.ids → KeysHeld (model_of w) keys w.vote_count → Held (model_of w) (counts_of w) w.ids w.names w.parents w.heights keys
+  pub all_held : {links : Links} → w.member_count ≤ length w.ids → KeysHeld (model_of w) links.numbers w.vote_count → Held (model_of w) w links
   all_held fits votes = record { members-held = members-held fits; names-held = names-held; heights-held = heights-held; ancestors_held = ancestors_held; keys_held = votes }
 
 -- whether a member is held, by the search in the table

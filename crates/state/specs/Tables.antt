@@ -7,11 +7,11 @@ use Rattle.model.specs.Model.{Model, Vote, member_index, place_of, height_of, vo
 use Rattle.model.specs.Tree.{ancestor?}
 use Rattle.model.specs.declared.Height.{Height}
 use Rattle.model.specs.declared.Place.{Place}
+use Rattle.search.specs.declared.Links.{Links}
 use Rattle.tables.specs.Keys.{pack}
 use Rattle.tables.specs.Places.{tree_of}
 use Rattle.names.specs.Rows.{rows}
 use Rattle.state.specs.State.{height}
-use Rattle.state.specs.declared.Counts.{Counts}
 use Rattle.state.specs.declared.Witness.{Witness}
 
 pub record MembersHeld (m : Model) (ids : List ℕ) (n : ℕ) : Type 0 where
@@ -37,16 +37,13 @@ pub record KeysHeld (m : Model) (keys : List ℕ) (n : ℕ) : Type 0 where
   pub count : length m.votes ≡ n
   pub held : (v : Vote) → v.source < 65536 → v.target < 65536 → vote_held m.votes v ≡ any_below n (λ k. eqb (get_or keys k 0) (key_of v))
 
-abbrev pub counts_of : Witness → Counts
-counts_of w = record { members = w.member_count; checkpoints = w.checkpoint_count; votes = w.vote_count }
-
--- all of them
-pub record Held (m : Model) (n : Counts) (ids names : List ℕ) (parents : List Place) (heights : List Height) (keys : List ℕ) : Type 0 where
-  pub members-held : MembersHeld m ids n.members
-  pub names-held : NamesHeld m names n.checkpoints
-  pub heights-held : HeightsHeld m heights n.checkpoints
-  pub ancestors_held : AncestorsHeld m parents n.checkpoints
-  pub keys_held : KeysHeld m keys n.votes
+-- all of them: those of a witness, and its votes' numbers in chains
+pub record Held (m : Model) (w : Witness) (links : Links) : Type 0 where
+  pub members-held : MembersHeld m w.ids w.member_count
+  pub names-held : NamesHeld m w.names w.checkpoint_count
+  pub heights-held : HeightsHeld m w.heights w.checkpoint_count
+  pub ancestors_held : AncestorsHeld m w.parents w.checkpoint_count
+  pub keys_held : KeysHeld m links.numbers w.vote_count
 
 -- no checkpoint is higher above the greatest height of a root than its place says, so that a child's height fits
 abbrev pub Low : ℕ → List Height → Type 0

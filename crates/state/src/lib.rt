@@ -42,14 +42,6 @@ pub struct Witness {
     pub numbers: Numbers,
 }
 
-// How many of each are held.
-#[derive(Clone, Copy)]
-pub struct Counts {
-    pub members: usize,
-    pub checkpoints: usize,
-    pub votes: usize,
-}
-
 // What reading came to where nothing is refused: nothing was left; a record that is no bundle was taken; of a bundle,
 // how many bits were set. What each of these votes came to stands beside it.
 #[derive(Clone, Copy, Debug, PartialEq, Eq)]

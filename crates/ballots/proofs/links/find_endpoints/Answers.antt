@@ -1,58 +1,39 @@
 -- `ballots::links::find_endpoints` meets its contract: its tests are rows 31 and 32, in their order. Assumes nothing.
 use Prim.Native.Nat.{◌+◌}
-use mathlib.Core.Path.{◌≡◌, refl, sym, ◌∙◌}
-use borrow.Author.Tests.{lt-ltb, le-ltb}
-use lib.Dec.{ltb}
+use mathlib.Core.Path.{refl, sym, ◌∙◌}
+use Rattle.std.proofs.lemmas.Result.{err_from_is_err_and}
 use Rattle.model.specs.Answer.{row, and_then}
-use Rattle.model.specs.Bytes.{part}
-use Rattle.model.specs.Model.{Model, name_held}
-use Rattle.state.specs.Tables.{NamesHeld}
-use Rattle.ballots.proofs.Linked.{link-rows, held_at, found_at}
+use Rattle.ballots.proofs.Linked.{link-rows, found_at, held-none, held-some, found-none, found-some}
 use Rattle.ballots.proofs.links.find_endpoints.Goals as goal
-use Rattle.ballots.proofs.links.find_endpoints.Goals.{After-find_name-s, After-find_name-t, Start}
 
-abbrev Names : Start → Model → Type 0
-Names c m = NamesHeld m c.args.names.now c.args.count
-
-source-held : (c : After-find_name-s) {m : Model} → let b = (goal.at.After-find_name-s c).Start in
-    Names (goal.at.After-find_name-s c).Start m → name_held m (part b.args.from 32 b.args.log.now) ≡ ltb c.find_name-s.result b.args.count
-source-held c names = let a = c.args in held_at a.from a.log.now names c.find_name-s.ensures
-
-target-held : (c : After-find_name-t) {m : Model} → let b = (goal.at.After-find_name-t c).Start in
-    Names (goal.at.After-find_name-t c).Start m → name_held m (part (b.args.from + 32) 32 b.args.log.now) ≡ ltb c.find_name-t.result b.args.count
-target-held c names =
+pub returns-in_err-s-clause-target_height_value : goal.returns-in_err-s-clause-target_height_value
+unfolding row and_then
+returns-in_err-s-clause-target_height_value c =
+    λ m h k names.
     let a = c.args in
-    held_at (a.from + 32) a.log.now names c.find_name-t.ensures
+    let p = err_from_is_err_and c.from_residual.result c.from_residual.ensures.1 in
+    let none = found-none _ _ _ c.find_name.result (sym c.ok_or.ensures.value ∙ c.in_err-s.was) c.find_name.ensures in
+    rw (p.1, p.2, none.1) (sym (link-rows m _ _ h k (held-none a.from a.log.now names none.0) refl refl refl))
 
-pub returns-then-count-s : goal.returns-then-count-s
+pub returns-in_err-t-clause-target_height_value : goal.returns-in_err-t-clause-target_height_value
 unfolding row and_then
-returns-then-count-s c =
-    let found = c.before in
-    record { target_height_value = (λ m h k names. sym (link-rows m _ _ h k (source-held (goal.at.returns-then-count-s c).After-find_name-s names ∙ le-ltb _ _ c.if-count-s.true) refl refl refl)); within = tt }
+returns-in_err-t-clause-target_height_value c =
+    λ m h k names.
+    let a = c.args in
+    let p = err_from_is_err_and c.from_residual-in_err-t.result c.from_residual-in_err-t.ensures.1 in
+    let s = found-some _ _ _ c.find_name.result (sym c.ok_or.ensures.value ∙ c.in_ok-s.was) c.find_name.ensures in
+    let none = found-none _ _ _ c.find_name-2.result (sym c.ok_or-2.ensures.value ∙ c.in_err-t.was) c.find_name-2.ensures in
+    rw (p.1, p.2, none.1)
+    (sym
+    (link-rows m _ _ h k (held-some a.from a.log.now names s) (held-none (a.from + 32) a.log.now names none.0) refl refl))
 
-pub returns-then-count-t : goal.returns-then-count-t
+pub returns-clause-target_height_value : goal.returns-clause-target_height_value
 unfolding row and_then
-returns-then-count-t c =
-    let found = c.before in
-    let from = (goal.at.returns-then-count-t c).After-find_name-s in record {
-      target_height_value = (λ m h k names.
-          sym
-          (link-rows m _ _ h k (source-held (goal.at.returns-then-count-t c).After-find_name-s names ∙ lt-ltb _ _ found.if-count-s.false)
-          (target-held (goal.at.returns-then-count-t c).After-find_name-t names ∙ le-ltb _ _ c.if-count-t.true) refl refl));
-      within = tt;
-    }
-
-pub returns : goal.returns
-unfolding row and_then
-returns c =
-    let found = c.before in
-    let from = (goal.at.returns c).After-find_name-s in
-    let a = c.args in record {
-      target_height_value = (λ m h k names.
-          sym
-          (link-rows m _ _ h k (source-held (goal.at.returns c).After-find_name-s names ∙ lt-ltb _ _ found.if-count-s.false)
-          (target-held (goal.at.returns c).After-find_name-t names ∙ lt-ltb _ _ c.if-count-t.false)
-          (found_at a.from a.log.now names from.find_name-s.ensures)
-          (found_at (a.from + 32) a.log.now names found.find_name-t.ensures)));
-      within = (found.if-count-s.false, c.if-count-t.false);
-    }
+returns-clause-target_height_value c =
+    λ m h k names.
+    let a = c.args in
+    let s = found-some _ _ _ c.find_name.result (sym c.ok_or.ensures.value ∙ c.in_ok-s.was) c.find_name.ensures in
+    let t = found-some _ _ _ c.find_name-2.result (sym c.ok_or-2.ensures.value ∙ c.in_ok-t.was) c.find_name-2.ensures in
+    sym
+    (link-rows m _ _ h k (held-some a.from a.log.now names s) (held-some (a.from + 32) a.log.now names t)
+    (found_at a.from a.log.now names s.0) (found_at (a.from + 32) a.log.now names t.0))

@@ -10,12 +10,12 @@ use Rattle.model.specs.Limits.{vote_limit}
 use Rattle.ballots.specs.Ballot.{vote_in}
 use Rattle.ballots.proofs.votes.room.Goals as goal
 
-pub returns-then-votes-ge-MAX_VOTES : goal.returns-then-votes-ge-MAX_VOTES
+pub returns-then-w-ge-MAX_VOTES : goal.returns-then-w-ge-MAX_VOTES
 unfolding row room
-returns-then-votes-ge-MAX_VOTES c =
-    λ m count. sym (ap (λ (b : Bool). row 36 b (answer (add_vote (vote_in c.args.ballot)))) (ap (leb vote_limit) count ∙ le-leb _ _ c.if-votes-ge-MAX_VOTES.true))
+returns-then-w-ge-MAX_VOTES c =
+    λ m count. sym (ap (λ (b : Bool). row 36 b (answer (add_vote (vote_in c.args.ballot)))) (ap (leb vote_limit) count ∙ le-leb _ _ c.if-w-ge-MAX_VOTES.true))
 
 pub returns : goal.returns
 unfolding row room
 returns c =
-    λ m count. sym (ap (λ (b : Bool). row 36 b (answer (add_vote (vote_in c.args.ballot)))) (ap (leb vote_limit) count ∙ lt-leb _ _ c.if-votes-ge-MAX_VOTES.false))
+    λ m count. sym (ap (λ (b : Bool). row 36 b (answer (add_vote (vote_in c.args.ballot)))) (ap (leb vote_limit) count ∙ lt-leb _ _ c.if-w-ge-MAX_VOTES.false))
