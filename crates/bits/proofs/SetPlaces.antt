@@ -5,7 +5,9 @@ use native.Mathlib.Numerals.{add-one}
 use mathlib.Core.Path.{◌≡◌, refl, sym, ap, ap₂, ◌∙◌}
 use mathlib.Core.List.{List, [], ◌∷◌, ◌++◌, append-nil}
 use mathlib.Core.Logic.{⊎_elim}
-use mathlib.Core.Bool.{Bool, true, false, cond, ◌&&◌, ◌||◌}
+use mathlib.Core.Bool.{Bool, true, false, cond, ◌&&◌, ◌||◌, and-false}
+use borrow.Author.Tests.{lt-leb}
+use lib.Dec.{leb}
 use lib.ListN.{length, drop, get_or, length-append}
 use lib.Seq.{get_or-take, get_or-drop}
 use Rattle.model.specs.Bits.{bit_set}
@@ -66,6 +68,18 @@ among bits q (suc n) p h set e =
     or_right (any q (set_below bits n)) (bit_set bits n && q n)
     (both (ap (bit_set bits) (sym same) ∙ set) (ap q (sym same) ∙ e)))
     (lt_or_ge p n)
+
+-- where no place from `from` on is set, none is among them
+pub none_from : (bits : List ℕ) (from n : ℕ) → ((k : ℕ) → from ≤ k → k < n → bit_set bits k ≡ false) → any (leb from) (set_below bits n) ≡ false
+unfolding concat_below any
+none_from bits from zero none = refl
+none_from bits from (suc n) none =
+    ap (λ (k : ℕ). any (leb from) (set_below bits k)) (sym (add-one n))
+    ∙ sym (any-more bits n (leb from) (sym (none_from bits from n (λ k l h. none k l (omega arith)))) refl)
+    ∙ ⊎_elim
+    (λ l. ap (λ (b : Bool). bit_set bits n && b) (lt-leb from n l) ∙ and-false (bit_set bits n))
+    (λ l. ap (λ (b : Bool). b && leb from n) (none n l (omega arith)))
+    (lt_or_ge n from)
 
 -- of the places below n at most n are set
 pub few-set : (bits : List ℕ) (n : ℕ) → length (set_below bits n) ≤ n

@@ -22,13 +22,11 @@ pub fn number(s: &[u8], at: usize) -> usize
     requires { at + 16 ≤ length s.now }
     ensures { (result ≡ length (set_places (part at 16 s.now))) × (result ≤ member_limit) }
 {
-    let mut n: usize = 0;
-    let mut p: usize = 0;
-    while p < MAX_MEMBERS {
+    let mut n = 0;
+    for p in 0..MAX_MEMBERS {
         if is_set(s, at, p) {
             n += 1;
         }
-        p += 1;
     }
     n
 }
@@ -38,11 +36,10 @@ pub fn any_from(s: &[u8], at: usize, from: usize) -> bool
     requires { at + 16 ≤ length s.now }
     ensures { result ≡ any (λ p. leb from p) (set_places (part at 16 s.now)) }
 {
-    let mut hit = false;
-    let mut p: usize = 0;
-    while p < MAX_MEMBERS {
-        hit = hit | (is_set(s, at, p) & (from <= p));
-        p += 1;
+    for p in from..MAX_MEMBERS {
+        if is_set(s, at, p) {
+            return true;
+        }
     }
-    hit
+    false
 }

@@ -3,7 +3,7 @@
 // error, once.
 #![tactic(auto)]
 
-ghost use Rattle.std.specs.Prelude.{◌≡◌, true, ◌-◌, ◌<◌, ◌≤◌, length, take, drop};
+ghost use Rattle.std.specs.Prelude.{◌≡◌, true, ◌-◌, ◌<◌, ◌≤◌, length, take, drop, IfSome, MatchOption};
 ghost use Rattle.buffered.specs.Hold.{whole?, ready?, IsFilled};
 
 use std::env::FillError;
@@ -18,12 +18,11 @@ pub const NOT_OPEN: i32 = 9;
 
 const NOT_TEXT: i32 = 84;
 
-// How many bytes are at hand after a read, whether the file has ended, and whether it could not be read.
-#[derive(Clone, Copy)]
+// How many bytes are at hand after a read, and whether the file has ended.
+#[derive(Clone, Copy, Debug, PartialEq, Eq)]
 pub struct Filled {
     pub have: usize,
     pub ended: bool,
-    pub failed: bool,
 }
 
 // Whether the call was cut off by a signal before its first byte.
@@ -31,35 +30,31 @@ fn is_interrupted(why: &Error) -> bool {
     why.kind() == ErrorKind::Interrupted
 }
 
-// One read into the buffer, behind the bytes at hand. There is room for one byte at least, so that a read of none is
-// the file's end. A read that was interrupted brings nothing: whoever wants more reads again.
+// One read into the buffer, behind the bytes at hand; None where it failed, which is told. There is room for one byte
+// at least, so that a read of none is the file's end. A read that was interrupted brings nothing: whoever wants more
+// reads again.
 pub fn fill<R: Read>(
     rt: HostRuntime,
     from: &mut R,
     name: &[u8],
     input: &mut [u8],
     have: usize,
-) -> Filled
+) -> Option<Filled>
     requires { have < length input.old }
-    ensures filled { IsFilled have input.old result.have input.new }
-    ensures have_value { result.ended ≡ true → result.have ≡ have }
+    ensures filled { MatchOption result (IsFilled have input.old have input.new) (λ r. IsFilled have input.old r.have input.new) }
+    ensures at_end { IfSome result (λ r. r.ended ≡ true → r.have ≡ have) }
 {
     match from.read(&mut input[have..]) {
-        Ok(bytes) => Filled {
+        Ok(bytes) => Some(Filled {
             have: have + bytes,
             ended: bytes == 0,
-            failed: false,
-        },
+        }),
         Err(why) => {
-            let failed = !is_interrupted(&why);
-            if failed {
-                fail(rt, name, &why);
+            if is_interrupted(&why) {
+                return Some(Filled { have, ended: false });
             }
-            Filled {
-                have,
-                ended: false,
-                failed,
-            }
+            fail(rt, name, &why);
+            None
         }
     }
 }
@@ -70,22 +65,18 @@ pub fn keep(input: &mut [u8], from: usize, have: usize) -> usize
     ensures value { (result ≡ have - from) × (result ≤ length input.new) }
     ensures input_after { take result input.new ≡ drop from (take have input.old) }
 {
-    let mut i: usize = 0;
-    while from + i < have {
-        input[i] = input[from + i];
-        i += 1;
-    }
-    i
+    input.copy_within(from..have, 0);
+    have - from
 }
 
 // Whether the bytes begin with a whole record, or with a kind that is unknown: then no more need come to go on.
 pub fn is_whole(bytes: &[u8]) -> bool
     ensures { result ≡ whole? bytes.now }
 {
-    if bytes.len() == 0 {
+    let Some(kind) = bytes.first() else {
         return false;
-    }
-    wire::records::record_size(bytes[0]) <= bytes.len()
+    };
+    wire::records::record_size(*kind) <= bytes.len()
 }
 
 // Whether the bytes at hand are worth a call: a header, a whole record, a kind that is unknown, or all that is left
@@ -113,10 +104,10 @@ pub fn is_open<F: AsFd>(of: &F) -> bool {
 
 // The file of that name, to be read.
 pub fn open_read(rt: HostRuntime, path: &[u8]) -> Result<File> {
-    match std::str::from_utf8(path) {
-        Ok(name) => File::open(&rt, name),
-        Err(_) => Err(Error::from_raw_os_error(NOT_TEXT)),
-    }
+    let Ok(name) = std::str::from_utf8(path) else {
+        return Err(Error::from_raw_os_error(NOT_TEXT));
+    };
+    File::open(&rt, name)
 }
 
 // How many arguments there are, the program's name among them. One that is longer than the byte that is asked for is
@@ -131,25 +122,23 @@ pub fn arg_count(rt: HostRuntime) -> usize {
     usize::MAX
 }
 
-// Writes all of the bytes. A proved loop has to end, and nothing says that signals do: so the calls are counted, down
-// from a number that no run uses up.
+// Writes all of the bytes. std's `write_all` has other words for a write of none. A proved loop has to end, and nothing
+// says that signals do: so the calls are counted, up to a number that no run reaches.
 fn write_all<W: Write>(to: &mut W, bytes: &[u8]) -> Result<()> {
-    let mut done: usize = 0;
-    let mut calls = u64::MAX;
-    while 0 < calls {
-        if bytes.len() <= done {
+    let mut rest = bytes;
+    for _ in 0..u64::MAX {
+        if rest.is_empty() {
             return Ok(());
         }
-        match to.write(&bytes[done..]) {
+        match to.write(rest) {
             Ok(0) => return Err(Error::from(ErrorKind::WriteZero)),
-            Ok(put) => done += put,
+            Ok(put) => rest = &rest[put..],
             Err(why) => {
                 if !is_interrupted(&why) {
                     return Err(why);
                 }
             }
         }
-        calls -= 1;
     }
     Err(Error::from(ErrorKind::Interrupted))
 }
@@ -168,31 +157,18 @@ pub fn print(rt: HostRuntime, bytes: &[u8]) -> bool {
     }
 }
 
-// The same of a buffer's first n bytes.
-pub fn print_front(rt: HostRuntime, buf: &[u8], n: usize) -> bool
-    requires { n ≤ length buf.now }
-{
-    print(rt, &buf[..n])
-}
-
 // Writes a line to standard error. Where that fails too there is no one left to tell.
 pub fn complain(rt: HostRuntime, line: &[u8]) {
     let _ = write_all(&mut rt.stderr(), line);
 }
 
-// How many of the first n bytes stand before their last ` (`; all n where there is none.
-fn before_number(text: &[u8], n: usize) -> usize
-    requires { n ≤ length text.now }
-    ensures { result ≤ n }
+// How many bytes stand before the last ` (`; all where there is none.
+fn before_number(text: &[u8]) -> usize
+    ensures { result ≤ length text.now }
 {
-    let mut i = n;
-    while 1 < i {
-        i -= 1;
-        if (text[i - 1] == b' ') & (text[i] == b'(') {
-            return i - 1;
-        }
-    }
-    n
+    text.windows(2)
+        .rposition(|pair| pair == b" (".as_slice())
+        .unwrap_or(text.len())
 }
 
 // Writes a line to standard error: what failed, a colon, and the system's words for why, without the number that std
@@ -200,12 +176,11 @@ fn before_number(text: &[u8], n: usize) -> usize
 pub fn fail(rt: HostRuntime, what: &[u8], why: &Error) {
     let mut words = Cursor::new([0u8; 256]);
     let _ = write!(words, "{why}");
-    let position = words.position() as usize;
-    let n = if position < 256 { position } else { 256 };
-    let text = words.into_inner();
-    let end = before_number(&text, n);
+    let n = words.position().min(256) as usize;
+    let buf = words.into_inner();
+    let text = &buf[..n];
     complain(rt, what);
     complain(rt, b": ");
-    complain(rt, &text[..end]);
+    complain(rt, &text[..before_number(text)]);
     complain(rt, b"\n");
 }

@@ -6,25 +6,28 @@ use mathlib.Core.Path.{◌≡◌, sym, ap, ap₂, ◌∙◌}
 use mathlib.Core.List.{List, ◌∷◌}
 use mathlib.Core.Bool.{Bool, false, ◌&&◌, not}
 use borrow.Author.Tests.{eq-eqb}
-use lib.ListN.{get_or, drop}
-use lib.Seq.{drop-drop}
+use lib.ListN.{length, get_or, take, drop}
+use lib.Seq.{drop-drop, length-take-le, get_or-take, take-take}
+use lib.Dec.{eqb}
 use Rattle.model.specs.Answer.{Answer, answer, row}
 use Rattle.model.specs.Bytes.{field}
 use Rattle.model.specs.Checker.{entries, check_from}
 use Rattle.model.specs.Evidence.{Charge, bond_of}
 use Rattle.model.specs.Limits.{member_limit, checkpoint_limit, vote_limit, bond_limit}
+use Rattle.model.specs.Lists.{first_index}
 use Rattle.model.specs.Model.{Model, Member, Vote, member_at, vote_at, height_of, same_vote}
-use Rattle.model.specs.Slashing.{breaks?}
+use Rattle.model.specs.Slashing.{breaks?, heights_break}
+use Rattle.slashing.proofs.Heights.{heights_break_lem}
 use Rattle.state.specs.declared.Witness.{Witness}
 use Rattle.state.specs.Sound.{Sound}
-use Rattle.state.specs.State.{place, height, model_of}
+use Rattle.state.specs.State.{place, model_of}
+use Rattle.state.specs.Tables.{MembersHeld}
 use Rattle.state.proofs.Entries.{count-members, count-votes, member_is, vote-is}
 use Rattle.state.proofs.Fields.{field_at}
-use Rattle.state.proofs.Sound.{few-members, few-checkpoints, few-votes}
-use Rattle.state.proofs.Sound.{source-held, target-held, source-height, target-height}
-use Rattle.model.specs.Slashing.{heights_break}
-use Rattle.slashing.proofs.Heights.{heights_break_lem}
+use Rattle.state.proofs.Held.{members-held}
+use Rattle.state.proofs.Sound.{few-members, few-checkpoints, few-votes, ids-long, voters-long, source-held, target-held, source-height, target-height}
 use Rattle.entry.specs.Entry.{VotersHeld, entry_at, PairFound}
+use Rattle.checker.specs.Check.{low_of, high_of}
 
 -- ---- the entries that are left
 
@@ -71,51 +74,52 @@ breaks_by_heights m v w e d =
     ∙ ap (λ (b : Bool). b && heights_break (h v.source) (h v.target) (h w.source) (h w.target))
     (eq-eqb _ _ e)
 
--- ---- the arrays of a witness
+-- ---- the arrays of a witness, of which slices as long as what is held are handed on
 
-module _ (w : Witness) where
-  abbrev source_in : ℕ → ℕ
-  source_in k = (get_or w.sources k (place 0)).0
-
-  abbrev target_in : ℕ → ℕ
-  target_in k = (get_or w.targets k (place 0)).0
-
-  abbrev height_in : ℕ → ℕ
-  height_in i = (get_or w.heights i (height 0)).0
-
-  pub voters-held : VotersHeld (model_of w) w.voters w.vote_count
-  voters-held = record { count = count-votes w; voter = λ k h. ap (λ (v : Vote). v.voter) (vote-is w k h) }
-
--- the places that a turn reads stand in the arrays
-pub record Inside (w : Witness) (member a b : ℕ) : Type 0 where
-  pub bond : member < member_limit
-  pub earlier : a < vote_limit
-  pub later : b < vote_limit
-  pub s1 : source_in w a < checkpoint_limit
-  pub t1 : target_in w a < checkpoint_limit
-  pub s2 : source_in w b < checkpoint_limit
-  pub t2 : target_in w b < checkpoint_limit
+-- two votes break a condition, by the heights of their places
+abbrev pub broken : Witness → ℕ → ℕ → Bool
+broken w i j = heights_break (low_of w i) (high_of w i) (low_of w j) (high_of w j)
 
 module _ (w : Witness) (sound : Sound w) where
+  pub ids-held : MembersHeld (model_of w) (take w.member_count w.ids) (length (take w.member_count w.ids))
+  ids-held =
+      let n = w.member_count in
+      let long : length (take n w.ids) ≡ n = length-take-le n w.ids (ids-long w sound) in
+      let held = members-held w (ids-long w sound) in
+      record {
+        count = held.count ∙ sym long;
+        index = λ id. held.index id ∙ ap (first_index (λ x. eqb x id)) (sym (ap (λ (k : ℕ). take k (take n w.ids)) long ∙ take-take n n w.ids (omega arith)));
+      }
+
+  pub voters-held : VotersHeld (model_of w) (take w.vote_count w.voters) (length (take w.vote_count w.voters))
+  voters-held =
+      let n = w.vote_count in
+      let long : length (take n w.voters) ≡ n = length-take-le n w.voters (voters-long w sound) in
+      record {
+        count = count-votes w ∙ sym long;
+        voter = λ k h. ap (λ (v : Vote). v.voter) (vote-is w k (omega (arith, long))) ∙ sym (get_or-take n w.voters k 0 (omega (arith, long)));
+      }
+
+  -- the places and heights of a vote are read inside the arrays
+  module _ {k : ℕ} (h : k < w.vote_count) where
+    pub vote-inside : k < vote_limit
+    vote-inside = omega (arith, few-votes w sound)
+
+    pub source-inside : (get_or w.sources k (place 0)).0 < checkpoint_limit
+    source-inside = omega (arith, source-held w sound k h, few-checkpoints w sound)
+
+    pub target-inside : (get_or w.targets k (place 0)).0 < checkpoint_limit
+    target-inside = omega (arith, target-held w sound k h, few-checkpoints w sound)
+
   module _ {floor : ℕ} {c : Charge} {member id a b : ℕ} (p : PairFound (model_of w) floor c member id a b) where
-    first-held : a < w.vote_count
+    pub first-held : a < w.vote_count
     first-held = omega (arith, p.order, p.last, count-votes w)
 
-    last-held : b < w.vote_count
+    pub last-held : b < w.vote_count
     last-held = omega (arith, p.last, count-votes w)
 
-    pub inside : Inside w member a b
-    inside =
-        let few = few-checkpoints w sound in
-        record {
-          bond = omega (arith, p.held, count-members w, few-members w sound);
-          earlier = omega (arith, first-held, few-votes w sound);
-          later = omega (arith, last-held, few-votes w sound);
-          s1 = omega (arith, source-held w sound a first-held);
-          t1 = omega (arith, target-held w sound a first-held);
-          s2 = omega (arith, source-held w sound b last-held);
-          t2 = omega (arith, target-held w sound b last-held);
-        }
+    pub bond-inside : member < member_limit
+    bond-inside = omega (arith, p.held, count-members w, few-members w sound)
 
     bond-read : (member_at (model_of w).members member).bond ≡ get_or w.bonds member 0
     bond-read = ap (λ (x : Member). x.bond) (member_is w member (omega (arith, p.held, count-members w)))
@@ -127,12 +131,7 @@ module _ (w : Witness) (sound : Sound w) where
     unfolding bond_of
     bond-of = ap (λ (k : ℕ). (member_at (model_of w).members k).bond) (sym p.index) ∙ bond-read
 
-    abbrev broken : Bool
-    broken =
-        let h = height_in w in
-        heights_break (h (source_in w a)) (h (target_in w a)) (h (source_in w b)) (h (target_in w b))
-
-    test_read : breaks? (model_of w) (vote_at (model_of w).votes a) (vote_at (model_of w).votes b) ≡ broken
+    test_read : breaks? (model_of w) (vote_at (model_of w).votes a) (vote_at (model_of w).votes b) ≡ broken w a b
     test_read =
         breaks_by_heights _ _ _ (p.first-voter ∙ sym p.last-voter) (sound.good.distinct a b p.order p.last)
         ∙ (λ i.
@@ -141,7 +140,7 @@ module _ (w : Witness) (sound : Sound w) where
 
     -- row 57 by the heights, and what the turn adds
     pub last_row : (sum : ℕ) (cs : List Charge) {b57 : Bool}
-        → broken ≡ b57
+        → broken w a b ≡ b57
         → check_from (model_of w) floor sum (c ∷ cs)
         ≡ row 57 (not b57) (check_from (model_of w) (id + 1) (sum + get_or w.bonds member 0) cs)
     last_row sum cs {b57} e =

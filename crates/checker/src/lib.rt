@@ -1,68 +1,54 @@
 // The checker of a list of charges against a witness: rows 50 to 57, and the sum of the bonds that the list names.
 #![tactic(auto)]
 
-ghost use Rattle.std.specs.Prelude.{◌≡◌, ◌+◌, ◌*◌, length, drop};
+ghost use Rattle.std.specs.Prelude.{◌≡◌, ◌+◌, ◌*◌, ◌<◌, length, drop};
 ghost use Rattle.model.specs.Checker.{entries, check_from, check};
 ghost use Rattle.state.specs.Sound.{Sound};
 ghost use Rattle.state.specs.State.{model_of};
-ghost use Rattle.checker.specs.Check.{check_of};
+ghost use Rattle.checker.specs.Check.{check_of, low_of, high_of};
 
-use entry::{Found, HeaderAnswer, find_pair, header_of};
-use model::Refusal;
+use entry::{find_pair, header_of};
+use model::{Height, Refusal};
 use slashing::breaks;
 use state::Witness;
 
-// What the checker gives: the sum of the bonds named, or the row that refuses the list.
-#[derive(Clone, Copy)]
-pub enum CheckAnswer {
-    Sum(u64),
-    Refused(Refusal),
+// The heights of a vote's source and of its target.
+fn heights_of(w: &Witness, vote: usize) -> (Height, Height)
+    requires { Sound w.now × (vote < w.now.vote_count) }
+    ensures { (result.0.0 ≡ low_of w.now vote) × (result.1.0 ≡ high_of w.now vote) }
+{
+    let source = w.sources[vote].0 as usize;
+    let target = w.targets[vote].0 as usize;
+    (w.heights[source], w.heights[target])
 }
 
 // Rows 53 to 57, entry by entry, and the sum of the bonds.
-fn check_entries(w: Witness, list: &[u8], count: usize) -> CheckAnswer
-    requires { Sound w × (length list.now ≡ 7 + 6 * count) }
-    ensures { check_of result ≡ check_from (model_of w) 0 0 (entries count (drop 7 list.now)) }
+fn check_entries(w: &Witness, list: &[u8], count: usize) -> Result<u64, Refusal>
+    requires { Sound w.now × (length list.now ≡ 7 + 6 * count) }
+    ensures { check_of result ≡ check_from (model_of w.now) 0 0 (entries count (drop 7 list.now)) }
 {
-    let members = w.member_count;
-    let votes = w.vote_count;
+    let ids = &w.ids[..w.member_count];
+    let voters = &w.voters[..w.vote_count];
     let mut floor: u32 = 0;
     let mut sum: u64 = 0;
-    let mut i: usize = 0;
-    while i < count {
-        match find_pair(&w.ids, members, &w.voters, votes, list, 7 + 6 * i, floor) {
-            Found::Refused(r) => {
-                return CheckAnswer::Refused(r);
-            }
-            Found::Pair {
-                member,
-                id,
-                earlier,
-                later,
-            } => {
-                let s1 = w.sources[earlier].0 as usize;
-                let t1 = w.targets[earlier].0 as usize;
-                let s2 = w.sources[later].0 as usize;
-                let t2 = w.targets[later].0 as usize;
-                if !breaks(w.heights[s1], w.heights[t1], w.heights[s2], w.heights[t2]) {
-                    return CheckAnswer::Refused(Refusal::NoViolation);
-                }
-                sum += w.bonds[member];
-                floor = (id as u32) + 1;
-            }
+    for i in 0..count {
+        let pair = find_pair(ids, voters, list, 7 + 6 * i, floor)?;
+        let (s1, t1) = heights_of(w, pair.earlier);
+        let (s2, t2) = heights_of(w, pair.later);
+        if !breaks(s1, t1, s2, t2) {
+            return Err(Refusal::NoViolation);
         }
-        i += 1;
+        sum += w.bonds[pair.member];
+        floor = (pair.id as u32) + 1;
     }
-    CheckAnswer::Sum(sum)
+    Ok(sum)
 }
 
 // Whether a list of any bytes is right against a sound state: the sum of the bonds that it names, or the refusal.
-pub fn check_list(w: Witness, list: &[u8]) -> CheckAnswer
-    requires { Sound w }
-    ensures { check_of result ≡ check (model_of w) list.now }
+pub fn check_list(w: &Witness, list: &[u8]) -> Result<u64, Refusal>
+    requires { Sound w.now }
+    ensures { check_of result ≡ check (model_of w.now) list.now }
 {
-    match header_of(list) {
-        HeaderAnswer::Refused(r) => CheckAnswer::Refused(r),
-        HeaderAnswer::Count(count) => check_entries(w, list, count),
-    }
+    let count = header_of(list)?;
+    check_entries(w, list, count)
 }

@@ -8,12 +8,6 @@ use Rattle.model.specs.Answer.{Answer, refused, answer, row_of}
 use Rattle.model.specs.Refusals.{refusal_number}
 use Rattle.model.specs.Support.{Support}
 use Rattle.model.specs.declared.Refusal.{Refusal}
-use Rattle.state.specs.Reading.{start_of, outcome_of}
-use Rattle.state.specs.declared.Outcome.{Outcome}
-use Rattle.state.specs.declared.Start.{Start}
-use Rattle.state.specs.declared.Start.TheVariants.{Begun as HasBegun, Refused as RefusedHeader}
-use Rattle.feeding.specs.Feed.{paused_of}
-use Rattle.feeding.specs.declared.Pause.{Pause}
 use Rattle.codes.specs.Numbers.{value_of, yes_number, taken_number, votes_number, pause_number, IsAnswered, IsBacked, IsTold}
 
 -- a bool's byte
@@ -50,26 +44,3 @@ module _ (a : Answer Support) where
     bonds = ap (value_of (λ b. b.bonds)) is;
     quorum = e ∙ ap (value_of (λ b. yes_number b.yes?)) is;
   }
-
--- a header, read by a call that gives `start`
-pub start_none : (s : Start) → s ≡ HasBegun → (name : List ℕ) → 0 ≡ row_of (start_of name s)
-unfolding row_of
-start_none s e name = sym (ap (λ x. row_of (start_of name x)) e)
-
-pub start-refused : (s : Start) (r : Refusal) (k : ℕ) → k ≡ refusal_number r → s ≡ RefusedHeader r → (name : List ℕ) → k ≡ row_of (start_of name s)
-unfolding row_of
-start-refused s r k n e name = n ∙ sym (ap (λ x. row_of (start_of name x)) e)
-
--- a record's outcome, which the match found to be `o`
-pub told_as_lem : (x o : Outcome) (n t v : ℕ) → x ≡ o → n ≡ row_of (outcome_of o) → t ≡ value_of taken_number (outcome_of o) → v ≡ value_of votes_number (outcome_of o)
-    → IsTold (outcome_of x) (record { refused = n; taken = t; votes = v })
-told_as_lem x o n t v e p q s =
-    record {
-      refused = p ∙ sym (ap (λ y. row_of (outcome_of y)) e);
-      taken = q ∙ sym (ap (λ y. value_of taken_number (outcome_of y)) e);
-      votes = s ∙ sym (ap (λ y. value_of votes_number (outcome_of y)) e);
-    }
-
--- a pause, which the match found to be `o`
-pub paused_as : (x o : Pause) (n : ℕ) → x ≡ o → n ≡ pause_number (paused_of o) → n ≡ pause_number (paused_of x)
-paused_as x o n e p = p ∙ sym (ap (λ y. pause_number (paused_of y)) e)

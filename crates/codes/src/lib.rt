@@ -4,14 +4,14 @@
 ghost use Rattle.std.specs.Prelude.{◌≡◌, List, ℕ};
 ghost use Rattle.model.specs.Answer.{row_of};
 ghost use Rattle.model.specs.Buffer.{write_answer_of};
-ghost use Rattle.model.specs.Refusals.{refusal_number};
+ghost use Rattle.model.specs.Refusals.{refusal_number, answer_of};
 ghost use Rattle.state.specs.Reading.{outcome_of, start_of};
 ghost use Rattle.feeding.specs.Feed.{Feeding, IsFed, paused_of};
 ghost use Rattle.codes.specs.Numbers.{status_number, pause_number, IsAnswered, IsTold, IsPiece};
 
 use feeding::{Fed, Pause};
-use model::{MAX_MEMBERS, Refusal, Status, WriteAnswer};
-use state::{Outcome, Start, Witness};
+use model::{MAX_MEMBERS, Refusal, Status};
+use state::{Outcome, Passed, Witness};
 
 // An answer: the number of the refusal and 0, or 0 and the value.
 #[repr(C)]
@@ -89,20 +89,21 @@ pub struct Piece {
     pub witness: Witness,
 }
 
-// The number of a refusal.
+// The number of a refusal. A function, and no `From`: that would have to stand in the crate of `Refusal`.
 pub fn number(r: Refusal) -> u64
     ensures { result ≡ refusal_number r }
 {
-    refusals::refusal_number(r) as u64
+    u64::from(u8::from(r))
 }
 
-// The number of the refusal of a header; 0 where there is none.
-pub fn start_number(s: Start) -> u64
-    ensures { (name : List ℕ) → result ≡ row_of (start_of name s) }
+// The number of the refusal, of a header or of a move; 0 where there is none.
+#[tactic(auto, unfolding(model::specs::Answer::row_of))]
+pub fn refused_by(r: Result<(), Refusal>) -> u64
+    ensures { (name : List ℕ) → result ≡ row_of (start_of name r) }
 {
-    match s {
-        Start::Begun => 0,
-        Start::Refused(r) => number(r),
+    match r {
+        Ok(()) => 0,
+        Err(r) => number(r),
     }
 }
 
@@ -115,46 +116,47 @@ pub struct Tells {
     pub votes: u64,
 }
 
-pub fn tell(o: Outcome) -> Tells
-    ensures { IsTold (outcome_of o) result }
-{
-    match o {
-        Outcome::Nothing => Tells {
-            refused: 0,
-            taken: 0,
-            votes: 0,
-        },
-        Outcome::Taken => Tells {
-            refused: 0,
-            taken: 1,
-            votes: 0,
-        },
-        Outcome::Bundled(n) => Tells {
-            refused: 0,
-            taken: 0,
-            votes: n as u64,
-        },
-        Outcome::Refused(r) => Tells {
-            refused: number(r),
-            taken: 0,
-            votes: 0,
-        },
+impl From<Outcome> for Tells {
+    ghost from_gives = { λ o t. IsTold (outcome_of o) t };
+
+    #[tactic(auto, unfolding(model::specs::Answer::row_of))]
+    fn from(o: Outcome) -> Tells {
+        let (refused, taken, votes) = match o {
+            Ok(Passed::Nothing) => (0, 0, 0),
+            Ok(Passed::Taken) => (0, 1, 0),
+            Ok(Passed::Bundled(n)) => (0, 0, n as u64),
+            Err(r) => (number(r), 0, 0),
+        };
+        Tells {
+            refused,
+            taken,
+            votes,
+        }
     }
 }
 
-// What writing a text came to: the number of the refusal, or the text's length.
-pub fn tell_length(a: WriteAnswer) -> Answered
-    ensures { IsAnswered (λ n. n) (write_answer_of a) result }
-{
-    match a {
-        WriteAnswer::Length(n) => Answered {
-            refused: 0,
-            value: n as u64,
-        },
-        WriteAnswer::Refused(r) => Answered {
-            refused: number(r),
-            value: 0,
-        },
+// What a call answers that gives one number.
+impl From<Result<u64, Refusal>> for Answered {
+    ghost from_gives = { λ r a. IsAnswered (λ n. n) (answer_of (λ n. n) r) a };
+
+    #[tactic(auto, unfolding(model::specs::Answer::row_of))]
+    fn from(r: Result<u64, Refusal>) -> Answered {
+        match r {
+            Ok(value) => Answered { refused: 0, value },
+            Err(r) => Answered {
+                refused: number(r),
+                value: 0,
+            },
+        }
+    }
+}
+
+// What writing a text came to: its value is the text's length.
+impl From<Result<usize, Refusal>> for Answered {
+    ghost from_gives = { λ r a. IsAnswered (λ n. n) (write_answer_of r) a };
+
+    fn from(r: Result<usize, Refusal>) -> Answered {
+        Answered::from(r.map(|n| n as u64))
     }
 }
 
@@ -169,30 +171,32 @@ pub fn status_number(s: Status) -> u64
     }
 }
 
-// The number for a pause.
-pub fn pause_number(p: Pause) -> u64
+// The number for a pause, or for the refusal of the call.
+pub fn pause_number(p: Result<Pause, Refusal>) -> u64
     ensures { result ≡ pause_number (paused_of p) }
 {
     match p {
-        Pause::Wants => 0,
-        Pause::Full => 1,
-        Pause::Ended => 2,
-        Pause::OutOfNumbers => 3,
-        Pause::Refused(r) => 256 + refusals::refusal_number(r) as u64,
+        Ok(Pause::Wants) => 0,
+        Ok(Pause::Full) => 1,
+        Ok(Pause::Ended) => 2,
+        Ok(Pause::OutOfNumbers) => 3,
+        Err(r) => 256 + number(r),
     }
 }
 
 // What a call for the report came to, in numbers.
-pub fn in_numbers(f: Fed) -> Piece
-    ensures { (g : Feeding) (at : ℕ) (before after : List ℕ) → IsFed g at 0 before f after → IsPiece g at before result after }
-{
-    let pause = f.pause;
-    let witness = f.witness;
-    Piece {
-        pause: pause_number(pause),
-        next: f.next,
-        records: f.records,
-        written: f.written,
-        witness,
+impl From<Fed> for Piece {
+    ghost from_gives = { λ f p. (g : Feeding) (at : ℕ) (before after : List ℕ) → IsFed g at 0 before f after → IsPiece g at before p after };
+
+    fn from(f: Fed) -> Piece {
+        let pause = f.pause;
+        let witness = f.witness;
+        Piece {
+            pause: pause_number(pause),
+            next: f.next,
+            records: f.records,
+            written: f.written,
+            witness,
+        }
     }
 }

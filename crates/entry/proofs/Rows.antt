@@ -1,20 +1,26 @@
 -- What rows 50 to 56 come to, once each test is known: the code's tests, one by one, are the rows.
 use Prim.Native.Nat.{ℕ, suc, ◌+◌, ◌*◌, ◌<◌, ◌≤◌}
 use native.Mathlib.Omega.{arith}
-use mathlib.Core.Path.{◌≡◌, sym, ap, ap₂}
+use mathlib.Core.Path.{◌≡◌, refl, sym, ap, ap₂, ◌∙◌}
 use mathlib.Core.List.{List, [], ◌∷◌}
 use mathlib.Core.Bool.{Bool, true, false, ◌&&◌, ◌||◌, not}
 use borrow.Author.Tests.{eqb-true, eq-eqb, ne_eqb, ltb-true, ltb-false, lt-ltb, le-ltb}
 use lib.ListN.{length, get_or, take, drop}
+use lib.Seq.{take-length}
 use lib.Dec.{eqb, ltb}
+use Rattle.std.specs.Borrow.{Bor}
+use Rattle.std.specs.Option.{option_eq, option_map, unwrap_or, is_some}
+use Rattle.std.specs.Prelude.{Option, Some, None}
 use Rattle.model.specs.Answer.{row}
 use Rattle.model.specs.Bytes.{field, part, ascii}
 use Rattle.model.specs.Checker.{entries, own_vote?, check_from, check}
 use Rattle.model.specs.Evidence.{Charge, bond_of}
-use Rattle.model.specs.Lists.{same_bytes}
+use Rattle.model.specs.Lists.{first_index, same_bytes}
 use Rattle.model.specs.Model.{Model, vote_at, member_index, id_held}
 use Rattle.model.specs.Slashing.{breaks?}
 use Rattle.model.proofs.Lists.{or_left, or_right, and_left, and_right}
+use Rattle.state.specs.Tables.{MembersHeld}
+use Rattle.state.proofs.Held.{held-id}
 use Rattle.entry.specs.Entry.{VotersHeld, entry_at, PairFound}
 
 -- ---- the header
@@ -60,6 +66,34 @@ module _ {m : Model} {voters : List ℕ} {n : ℕ} (held : VotersHeld m voters n
   pub own-here : (k : ℕ) → k < n → own_vote? m id k ≡ eqb (get_or voters k 0) id
   unfolding own_vote?
   own-here k h = ap₂ (λ (b : Bool) (v : ℕ). b && eqb v id) (lt-ltb k _ (omega (arith, held.count))) (held.voter k h)
+
+-- ---- a member by the id, among exactly those held
+
+module _ {m : Model} {ids : List ℕ} (held : MembersHeld m ids (length ids)) (id : ℕ) where
+  abbrev first : List ℕ → ℕ
+  first xs = first_index (λ x. eqb x id) xs
+
+  whole : first (take (length ids) ids) ≡ first ids
+  whole = ap first (take-length ids)
+
+  pub id-lost : first ids ≡ length ids → id_held m id ≡ false
+  id-lost e = held-id id held refl ∙ le-ltb _ (length ids) (omega (arith, whole, e))
+
+  module _ {i : ℕ} (so : (i ≡ first ids) × (i < length ids)) where
+    pub id-found : id_held m id ≡ true
+    id-found = held-id id held (so.0 ∙ sym whole) ∙ lt-ltb _ _ so.1
+
+    pub id-index : i ≡ member_index m.members id
+    id-index = so.0 ∙ sym whole ∙ sym (held.index id)
+
+-- what stands in the slice of exactly these at k, compared with the id
+module _ {m : Model} {voters : List ℕ} (held : VotersHeld m voters (length voters)) where
+  pub own-read : (k : ℕ) (id : Bor ℕ) (o : Option (Bor ℕ)) → is_some o ≡ ltb k (length voters)
+      → unwrap_or (option_map (λ (x : Bor ℕ). x.now) o) 0 ≡ get_or voters k 0
+      → option_eq (λ x y. eqb x.now y.now) o (Some id) ≡ own_vote? m id.now k
+  own-read k id None some read = sym (own-past held id.now k (ltb-false k (length voters) (sym some)))
+  own-read k id (Some x) some read =
+      ap (λ (v : ℕ). eqb v id.now) read ∙ sym (own-here held id.now k (ltb-true k (length voters) (sym some)))
 
 record Own (m : Model) (id k : ℕ) : Type 0 where
   inside : k < length m.votes

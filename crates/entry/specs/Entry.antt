@@ -1,5 +1,5 @@
 -- What rows 50 to 56 leave to decide, by what was found in the header and in an entry.
-use Rattle.std.specs.Prelude.{ℕ, suc, ◌+◌, ◌*◌, ◌<◌, ◌≤◌, ◌≡◌, List, ◌∷◌, not, length, get_or, drop}
+use Rattle.std.specs.Prelude.{ℕ, suc, ◌+◌, ◌*◌, ◌<◌, ◌≤◌, ◌≡◌, List, ◌∷◌, not, length, get_or, drop, Result, MatchResult}
 use Rattle.model.specs.Answer.{refused, row}
 use Rattle.model.specs.Bytes.{field}
 use Rattle.model.specs.Checker.{entries, check_from, check}
@@ -7,19 +7,16 @@ use Rattle.model.specs.Evidence.{Charge, bond_of}
 use Rattle.model.specs.Model.{Model, vote_at, member_index}
 use Rattle.model.specs.Refusals.{refusal_number}
 use Rattle.model.specs.Slashing.{breaks?}
-use Rattle.entry.specs.declared.HeaderAnswer.{HeaderAnswer}
-use Rattle.entry.specs.declared.HeaderAnswer.TheVariants.{Count, Refused as RefuseHeader}
-use Rattle.entry.specs.declared.Found.{Found}
-use Rattle.entry.specs.declared.Found.TheVariants.{Pair, Refused as RefuseEntry}
+use Rattle.model.specs.declared.Refusal.{Refusal}
+use Rattle.entry.specs.declared.Pair.{Pair}
 
 -- a header that rows 50 to 52 pass: the list is as long as n entries, and they decide
 pub record HeaderRight (l : List ℕ) (n : ℕ) : Type 0 where
   pub exact : length l ≡ 7 + 6 * n
   pub rest : (m : Model) → check m l ≡ check_from m 0 0 (entries n (drop 7 l))
 
-abbrev pub HeaderIs : List ℕ → HeaderAnswer → Type 0
-HeaderIs l (Count n) = HeaderRight l n
-HeaderIs l (RefuseHeader r) = (m : Model) → check m l ≡ refused (refusal_number r)
+abbrev pub HeaderIs : List ℕ → Result ℕ Refusal → Type 0
+HeaderIs l answer = MatchResult answer (HeaderRight l) (λ r. (m : Model) → check m l ≡ refused (refusal_number r))
 
 -- the array of the votes' members holds them
 pub record VotersHeld (m : Model) (voters : List ℕ) (n : ℕ) : Type 0 where
@@ -44,6 +41,7 @@ pub record PairFound (m : Model) (floor : ℕ) (c : Charge) (member id earlier l
       ≡ row 57 (not (breaks? m (vote_at m.votes earlier) (vote_at m.votes later)))
       (check_from m (suc id) (sum + bond_of m.members id) cs)
 
-abbrev pub FoundIs : Model → ℕ → Charge → Found → Type 0
-FoundIs m floor c (Pair member id earlier later) = PairFound m floor c member id earlier later
-FoundIs m floor c (RefuseEntry r) = (sum : ℕ) (cs : List Charge) → check_from m floor sum (c ∷ cs) ≡ refused (refusal_number r)
+abbrev pub FoundIs : Model → ℕ → Charge → Result Pair Refusal → Type 0
+FoundIs m floor c answer =
+    MatchResult answer (λ p. PairFound m floor c p.member p.id p.earlier p.later)
+    (λ r. (sum : ℕ) (cs : List Charge) → check_from m floor sum (c ∷ cs) ≡ refused (refusal_number r))

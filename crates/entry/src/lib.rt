@@ -9,91 +9,75 @@ ghost use Rattle.entry.specs.Entry.{VotersHeld, entry_at, FoundIs, HeaderIs};
 
 use model::Refusal;
 
-// How many entries a list has, or the row that refuses its header.
-#[derive(Clone, Copy)]
-pub enum HeaderAnswer {
-    Count(usize),
-    Refused(Refusal),
+// An entry's member, by its place among the members and by its id, and its two votes.
+#[derive(Clone, Copy, Debug, PartialEq, Eq)]
+pub struct Pair {
+    pub member: usize,
+    pub id: u16,
+    pub earlier: usize,
+    pub later: usize,
 }
 
-// An entry's member, by its place among the members and by its id, and its two votes; or the row that refuses it.
-#[derive(Clone, Copy)]
-pub enum Found {
-    Pair {
-        member: usize,
-        id: u16,
-        earlier: usize,
-        later: usize,
-    },
-    Refused(Refusal),
-}
-
-// Rows 50 to 52.
-pub fn header_of(list: &[u8]) -> HeaderAnswer
+// How many entries a list has: rows 50 to 52.
+pub fn header_of(list: &[u8]) -> Result<usize, Refusal>
     ensures { HeaderIs list.now result }
 {
     if list.len() < 7 {
-        return HeaderAnswer::Refused(Refusal::ListLength);
+        return Err(Refusal::ListLength);
     }
     let count = wire::be16(list, 5) as usize;
     if list.len() != 7 + 6 * count {
-        return HeaderAnswer::Refused(Refusal::ListLength);
+        return Err(Refusal::ListLength);
     }
     if !wire::same(list, 0, b"FFP", 0, 3) {
-        return HeaderAnswer::Refused(Refusal::ListMark);
+        return Err(Refusal::ListMark);
     }
     if wire::be16(list, 3) != 1 {
-        return HeaderAnswer::Refused(Refusal::ListVersion);
+        return Err(Refusal::ListVersion);
     }
-    HeaderAnswer::Count(count)
+    Ok(count)
 }
 
 // Whether the vote with this number is held, and this member's.
-fn own_vote(voters: &[u16], votes: usize, id: u16, number: usize) -> bool
-    requires { votes ≤ length voters.now }
-    ensures { (m : Model) → VotersHeld m voters.now votes → result ≡ own_vote? m id number }
+fn own_vote(voters: &[u16], id: u16, number: usize) -> bool
+    ensures { (m : Model) → VotersHeld m voters.now (length voters.now) → result ≡ own_vote? m id number }
 {
-    if votes <= number {
-        return false;
-    }
-    voters[number] == id
+    voters.get(number) == Some(&id)
 }
 
-// Rows 53 to 56 of the entry at `at`; `floor` is one more than the id before, and 0 for the first.
+// Rows 53 to 56 of the entry at `at`; `floor` is one more than the id before, and 0 for the first. The ids and the
+// voters are those of the members and the votes that are held.
 pub fn find_pair<'a>(
     ids: &'a [u16],
-    members: usize,
     voters: &'a [u16],
-    votes: usize,
     list: &[u8],
     at: usize,
     floor: u32,
-) -> Found
-    requires { (members ≤ length ids.now) × (votes ≤ length voters.now) × (at + 6 ≤ length list.now) }
-    ensures { (m : Model) → MembersHeld m ids.now members → VotersHeld m voters.now votes → FoundIs m
-        floor (entry_at at list.now) result }
+) -> Result<Pair, Refusal>
+    requires { at + 6 ≤ length list.now }
+    ensures { (m : Model) → MembersHeld m ids.now (length ids.now) → VotersHeld m voters.now (length voters.now)
+        → FoundIs m floor (entry_at at list.now) result }
 {
     let id = wire::be16(list, at);
     if (id as u32) < floor {
-        return Found::Refused(Refusal::IdNotRising);
+        return Err(Refusal::IdNotRising);
     }
-    let member = tables::find_id(ids, members, id);
-    if members <= member {
-        return Found::Refused(Refusal::ChargedNotHeld);
-    }
+    let Some(member) = tables::find_id(ids, id) else {
+        return Err(Refusal::ChargedNotHeld);
+    };
     let earlier = wire::be16(list, at + 2) as usize;
     let later = wire::be16(list, at + 4) as usize;
-    let own = own_vote(voters, votes, id, earlier) & own_vote(voters, votes, id, later);
+    let own = own_vote(voters, id, earlier) & own_vote(voters, id, later);
     if !own {
-        return Found::Refused(Refusal::NotOwnVote);
+        return Err(Refusal::NotOwnVote);
     }
     if later <= earlier {
-        return Found::Refused(Refusal::NotEarlier);
+        return Err(Refusal::NotEarlier);
     }
-    Found::Pair {
+    Ok(Pair {
         member,
         id,
         earlier,
         later,
-    }
+    })
 }

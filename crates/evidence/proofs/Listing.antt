@@ -14,7 +14,8 @@ use Rattle.model.specs.Model.{Member, member_at}
 use Rattle.model.proofs.Lists.{tabulate-same, all_map}
 use Rattle.state.specs.declared.Witness.{Witness}
 use Rattle.state.specs.State.{model_of}
-use Rattle.conduct.specs.declared.Conduct.{Conduct}
+use Rattle.conduct.specs.declared.Breach.{Breach}
+use Rattle.std.specs.Prelude.{Option}
 use Rattle.evidence.specs.declared.Charges.{Charges}
 use Rattle.conduct.specs.Held.{Ordered}
 use Rattle.conduct.specs.Shown.{conduct_at, Shown}
@@ -50,7 +51,7 @@ adds_one c id i j e so = so ∙ sym (ap (λ (k : Model.Conduct). charges_of c ++
 
 -- ---- the members at the first k places
 
-module _ (ids : List ℕ) (shown : List Conduct) where
+module _ (ids : List ℕ) (shown : List (Option Breach)) where
   pub listed-none : (c : Charges) → c.count ≡ 0 → charges_of c ≡ charges_at ids shown []
   unfolding charges_of charges_at tabulate flat_map
   listed-none c e = ap (λ (n : ℕ). tabulate n (charge_in c)) e
@@ -76,7 +77,7 @@ unfolding flat_map
 flat_same f g member none = refl
 flat_same f g member (each e es) = ap₂ ◌++◌ e (flat_same f g member es)
 
-pub listed-charges : (w : Witness) (shown : List Conduct) (places : List ℕ) {cs : List Charge}
+pub listed-charges : (w : Witness) (shown : List (Option Breach)) (places : List ℕ) {cs : List Charge}
     → Ordered w.ids w.member_count 0 places
     → Shown w shown
     → cs ≡ charges_at w.ids shown places

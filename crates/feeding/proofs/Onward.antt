@@ -4,12 +4,14 @@ use Prim.Native.Nat.{ℕ, zero, suc, ◌+◌, ◌*◌, ◌-◌, ◌<◌, ◌≤�
 use native.Mathlib.Omega.{arith}
 use mathlib.Core.Path.{◌≡◌, refl, sym, ap, ap₂, ◌∙◌, subst, transport}
 use mathlib.Core.List.{List, [], ◌∷◌, ◌++◌, flat_map, append_assoc}
-use mathlib.Core.Logic.{⊎_elim}
-use mathlib.Core.Bool.{Bool, true, false, cond, ◌&&◌, ◌||◌}
-use borrow.Author.Tests.{eq-eqb, ne_eqb, eqb-false, le-ltb, ltb-true, ltb-false, le-leb, leb-true}
-use lib.Dec.{eqb, ltb, leb}
+use mathlib.Core.Logic.{◌⊎◌, ⊎_elim}
+use mathlib.Core.Bool.{Bool, true, false, cond, ◌||◌}
+use borrow.Author.Tests.{eq-eqb, ne_eqb, eqb-false, le-ltb, ltb-false}
+use lib.Dec.{eqb, ltb}
 use lib.ListN.{length, take, drop, length-append, length-drop}
 use lib.Seq.{take_at, drop-drop}
+use Rattle.std.specs.Prelude.{Result, Ok, None, Some}
+use Rattle.model.specs.declared.Refusal.{Refusal}
 use Rattle.model.specs.Answer.{Answer}
 use Rattle.model.specs.Bytes.{AreBytes}
 use Rattle.model.specs.Change.{Told, Decision}
@@ -19,7 +21,7 @@ use Rattle.model.specs.Log.{record_length}
 use Rattle.model.specs.Report.{outcome_line, outcome_lines}
 use Rattle.state.specs.Reading.{Brief, outcome_of, brief}
 use Rattle.state.specs.State.{model_of, stored}
-use Rattle.state.specs.declared.Outcome.{Outcome}
+use Rattle.state.specs.declared.Passed.{Passed as Came}
 use Rattle.state.specs.declared.Witness.{Witness}
 use Rattle.state.specs.Sound.{Sound}
 use Rattle.state.proofs.Kept.{reading-sound}
@@ -29,17 +31,16 @@ use Rattle.model.proofs.Readings.{whole_goes_on}
 use Rattle.entries.specs.Entries.{rows_of, entries_of, entries}
 use Rattle.reader.specs.Many.{Ended, ended_by, Many, read_many, end_of, ended_told, IsBatch}
 use Rattle.reader.specs.declared.Batch.{Batch}
-use Rattle.reader.specs.declared.End.TheVariants.{Spent, EndedBy}
 use Rattle.entries.proofs.Entries.{marked-length, entries-more}
 use Rattle.reader.proofs.Made.{length-inside, while_passed, Stops, Ends, many-ends, not_both, some-told}
 use Rattle.reader.proofs.Told.{told-rowed}
 use Rattle.text.specs.Put.{Put}
 use Rattle.text.proofs.Putting as Putting
-use Rattle.feeding.specs.Feed.{Feeding, paused_at, ahead, record_room, last_number, spent, halted, feed_from, paused_of, IsFed}
+use Rattle.feeding.specs.Feed.{Feeding, paused_at, ahead, record_room, last_number, spent, halted, feed_from, pause_of, IsFed}
 use Rattle.feeding.specs.Rows.{entry_lines, beginning}
 use Rattle.feeding.specs.declared.Fed.{Fed}
 use Rattle.feeding.specs.declared.Pause.{Pause}
-use Rattle.feeding.proofs.Rows.{and-true, Passed, line-fits, entry-lines, entries-begin, outcome-more}
+use Rattle.feeding.proofs.Rows.{Passed, line-fits, entry-lines, entries-begin, outcome-more}
 use Rattle.feeding.proofs.Told.{halted-brief}
 
 -- `whole` is what the call comes to; the text so far stands in the buffer, from 0 to `end`
@@ -58,23 +59,13 @@ ne_zero : (n : ℕ) → (n ≡ 0 → ⊥) → 0 < n
 ne_zero zero h = absurd (h refl)
 ne_zero (suc n) h = omega arith
 
--- what `read_on` tests: a line fits, and a number is left
-abbrev pub goes_on : (room k : ℕ) → Bool
-goes_on room k = leb record_room room && ltb k last_number
-
-pub room_and_number : (room k : ℕ) → goes_on room k ≡ true → (record_room ≤ room) × (k < last_number)
-room_and_number room k e = let both = and-true (leb record_room room) (ltb k last_number) e in (leb-true record_room room both.0, ltb-true k last_number both.1)
-
--- where it fails, no record can be read on
-spent-then : (room k : ℕ) → k ≤ last_number → goes_on room k ≡ false → (ltb room record_room || eqb k last_number) ≡ true
-spent-then room k few e = go (ltb room record_room) refl
+-- where the lines of a record may not fit, or no number is left, no record can be read on
+spent-then : (room k : ℕ) → k ≤ last_number → (room < record_room) ⊎ (last_number ≤ k) → (ltb room record_room || eqb k last_number) ≡ true
+spent-then room k few stops = go (ltb room record_room) refl
   where
     go : (short : Bool) → ltb room record_room ≡ short → (short || eqb k last_number) ≡ true
     go true s = refl
-    go false s =
-        let fits = le-leb record_room room (ltb-false room record_room s) in
-        let last = ltb-false k last_number (ap (λ (b : Bool). b && ltb k last_number) (sym fits) ∙ e) in
-        eq-eqb k last_number (omega (arith, few, last))
+    go false s = eq-eqb k last_number (⊎_elim (λ no_room. absurd (omega (arith, no_room, ltb-false room record_room s))) (λ none. omega (arith, few, none)) stops)
 
 -- at the start all is left
 pub none_yet : (w : Witness) (k : ℕ) (log : List ℕ) (at : ℕ) (buf : List ℕ) → Sound w → k ≤ last_number
@@ -138,10 +129,10 @@ module _ {whole : Feeding} {log : List ℕ} {at : ℕ} {before buf : List ℕ} {
   opened b e = ap branches (ap (λ (n : ℕ). ltb n record_room || eqb k last_number) same-room ∙ e)
 
   -- no room, or no number
-  pub spent-here : (why : Pause) → paused_of why ≡ spent (length buf - end) → goes_on (length buf - end) k ≡ false
-      → IsFed whole at 0 before (record { pause = why; next = next; records = k; written = end; witness = held }) buf
-  spent-here why says e =
-      paused-here (opened true (spent-then (length buf - end) k so.numbered e))
+  pub spent-here : (why : Pause) → pause_of why ≡ spent (length buf - end) → (length buf - end < record_room) ⊎ (last_number ≤ k)
+      → IsFed whole at 0 before (record { pause = Ok why; next = next; records = k; written = end; witness = held }) buf
+  spent-here why says stops =
+      paused-here (opened true (spent-then (length buf - end) k so.numbered stops))
       (record { pause = says ∙ ap spent (sym same-room); next = omega arith; records = refl; witness = refl; text = Putting.none buf end end-inside })
 
   module _ (room : record_room ≤ length buf - end) (number : k < last_number) where
@@ -296,7 +287,7 @@ module _ {whole : Feeding} {log : List ℕ} {at : ℕ} {before buf : List ℕ} {
           transport (λ i. Sofar whole log at before (stands i) (sym is.witness i) (k + sym is.records i) (sym is.next i) (ends_there i)) b.sofar
 
       -- no more may be read: some were passed
-      pub some-passed : 128 ≤ n → r.end ≡ Spent → 0 < r.records
+      pub some-passed : 128 ≤ n → r.end ≡ None → 0 < r.records
       some-passed enough e =
           ⊎_elim
           (λ h. ⊎_elim (λ all. omega (arith, all, is.records, may.number)) (λ short. omega (arith, is.records, some-told m.passed (omega (arith, short, enough)))) h.1)
@@ -304,7 +295,7 @@ module _ {whole : Feeding} {log : List ℕ} {at : ℕ} {before buf : List ℕ} {
           ends.here
 
       -- the next one cannot be passed
-      module _ (o : Outcome) (stop : r.end ≡ EndedBy o) where
+      module _ (o : Result Came Refusal) (stop : r.end ≡ Some o) where
         said : ended_by (outcome_of o) ≡ m.end
         said = sym (ap end_of stop) ∙ is.end
 

@@ -4,7 +4,7 @@ use native.Mathlib.Nat.{mod-lt, pow-suc, div-add-mod'}
 use native.Mathlib.Omega.{arith}
 use mathlib.Core.Path.{◌≡◌, refl, sym, ap, ap₂, ◌∙◌}
 use mathlib.Core.List.{List, [], ◌∷◌, ◌++◌, map, flat_map, append_assoc, append-nil}
-use mathlib.Core.Bool.{Bool, true, false, cond, ◌&&◌}
+use mathlib.Core.Bool.{Bool, true, false, cond}
 use borrow.Author.Tests.{eq-eqb, ne_eqb, lt-ltb, le-ltb, ltb-false}
 use lib.Dec.{eqb, ltb}
 use lib.ListN.{length, drop, get_or, length-append}
@@ -14,17 +14,12 @@ use Rattle.model.specs.Bytes.{ascii}
 use Rattle.model.specs.Change.{Told, nothing_left, taken, bundled}
 use Rattle.model.specs.Lists.{All, none, each}
 use Rattle.model.specs.Report.{digits, decimal, newline, stops?, stopped_line, refused_line, bundle_lines, outcome_line, outcome_lines}
-use Rattle.model.proofs.Lists.{clash}
 use Rattle.entries.specs.Entries.{later, marked, rows_of, entries_of, entries}
 use Rattle.entries.proofs.Entries.{marked-length}
 use Rattle.reader.proofs.Told.{Named, Rowed}
 use Rattle.text.specs.Put.{Put}
 use Rattle.text.proofs.Putting as Putting
 use Rattle.feeding.specs.Rows.{row_line, number_at, next_at, lines_from, entry_lines, beginning}
-
-pub and-true : (a b : Bool) → (a && b) ≡ true → (a ≡ true) × (b ≡ true)
-and-true true b e = (refl, e)
-and-true false b e = clash e refl
 
 -- ---- one line
 

@@ -1,11 +1,12 @@
 -- The report of a log that is fed in pieces: what each call writes, and where it pauses.
-use Rattle.std.specs.Prelude.{ℕ, zero, suc, ◌+◌, ◌*◌, ◌-◌, ◌≡◌, List, [], ◌++◌, Bool, cond, not, ◌&&◌, ◌||◌, eqb, ltb, length, drop}
+use Rattle.std.specs.Prelude.{ℕ, zero, suc, ◌+◌, ◌*◌, ◌-◌, ◌≡◌, List, [], ◌++◌, Bool, cond, not, ◌&&◌, ◌||◌, eqb, ltb, length, drop, Result, Ok, Err}
 use Rattle.model.specs.Answer.{Answer, refused, answer}
 use Rattle.model.specs.Decide.{decide}
 use Rattle.model.specs.Limits.{member_limit}
 use Rattle.model.specs.Log.{header, record_length}
 use Rattle.model.specs.Model.{Model}
 use Rattle.model.specs.Refusals.{refusal_number}
+use Rattle.model.specs.declared.Refusal.{Refusal}
 use Rattle.model.specs.Report.{summary, stopped_line, outcome_line}
 use Rattle.state.specs.State.{empty_witness, model_of, stored}
 use Rattle.state.specs.declared.Witness.{Witness}
@@ -13,7 +14,7 @@ use Rattle.text.specs.Put.{Put}
 use Rattle.state.specs.Sound.{sound?}
 use Rattle.feeding.specs.declared.Fed.{Fed}
 use Rattle.feeding.specs.declared.Pause.{Pause}
-use Rattle.feeding.specs.declared.Pause.TheVariants.{Wants, Full, OutOfNumbers, Ended, Refused}
+use Rattle.feeding.specs.declared.Pause.TheVariants.{Wants, Full, OutOfNumbers, Ended}
 
 -- Why a call paused: it wants more of the log, since nothing is left or the last record is cut; the buffer has no room
 -- for the lines of another record, or for the last text; no record number is left; the report has ended, and nothing
@@ -112,12 +113,15 @@ end_fed room w k left =
 unfoldable pub end_call : ℕ → Witness → ℕ → ℕ → Feeding
 end_call room w k left = on_sound w k (end_fed room w k left)
 
-abbrev pub paused_of : Pause → Paused
-paused_of Wants = wants
-paused_of Full = full
-paused_of OutOfNumbers = out_of_numbers
-paused_of Ended = ended
-paused_of (Refused r) = refused_by (refusal_number r)
+abbrev pub pause_of : Pause → Paused
+pause_of Wants = wants
+pause_of Full = full
+pause_of OutOfNumbers = out_of_numbers
+pause_of Ended = ended
+
+abbrev pub paused_of : Result Pause Refusal → Paused
+paused_of (Ok p) = pause_of p
+paused_of (Err r) = refused_by (refusal_number r)
 
 -- what a call gives back and leaves: the text stands in the buffer from an offset on (0 for the public calls), and every other
 -- byte is as it was

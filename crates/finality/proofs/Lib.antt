@@ -1,2 +1,3 @@
 pub mod Conflicting
 pub mod Answered
+pub mod Front

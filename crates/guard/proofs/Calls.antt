@@ -11,8 +11,8 @@ use Rattle.model.proofs.Refusals.{refusal_small}
 use Rattle.guard.specs.Signing.{guard_rows, sign_answer_of}
 use Rattle.guard.specs.Calls.{none, call, answers_from, last_record, Folded, CallsAreFold, ExportedIsCall}
 use Rattle.guard.specs.declared.Guard.{Guard}
-use Rattle.guard.specs.declared.SignAnswer.{SignAnswer}
-use Rattle.guard.specs.declared.SignAnswer.TheVariants.{Signed, Refused}
+use Rattle.guard.specs.Signing.{SignAnswer}
+use Rattle.std.specs.Prelude.{Ok, Err}
 
 pub calls_are_fold : CallsAreFold
 unfolding answers_from last_record
@@ -37,19 +37,19 @@ record Said (x : Answer (Unit {0})) : Type 0 where
 rows-said : (g : Guard) (s t : ℕ) → Said (guard_rows g s t)
 unfolding guard_rows
 rows-said g s t =
-    row_elim Said 65 _ _ (record { said = Refused SourceNotBelowTarget; is = refl }) (λ _.
-    row_elim Said 66 _ _ (record { said = Refused TargetNotAboveLast; is = refl }) (λ _.
-    row_elim Said 67 _ _ (record { said = Refused SourceBelowLast; is = refl }) (λ _. record {
-      said = Signed;
+    row_elim Said 65 _ _ (record { said = Err SourceNotBelowTarget; is = refl }) (λ _.
+    row_elim Said 66 _ _ (record { said = Err TargetNotAboveLast; is = refl }) (λ _.
+    row_elim Said 67 _ _ (record { said = Err SourceBelowLast; is = refl }) (λ _. record {
+      said = Ok tt;
       is =
           refl;
     })))
 
 -- the number of an answer is 0 where it is a signature, and no refusal is
-zero_signed : (a : SignAnswer) → (row_of (sign_answer_of a) ≡ 0) ↔ (a ≡ Signed)
+zero_signed : (a : SignAnswer) → (row_of (sign_answer_of a) ≡ 0) ↔ (a ≡ Ok tt)
 unfolding row_of
-zero_signed Signed = (λ _. refl, λ _. refl)
-zero_signed (Refused r) = (
+zero_signed (Ok u) = (λ _. refl, λ _. refl)
+zero_signed (Err r) = (
   λ e. absurd (omega (arith, e, (refusal_small r).0)),
   λ e. absurd (omega (
     arith,

@@ -16,8 +16,8 @@ use Rattle.guard.specs.Calls.{Request, Calls, none, call, if_signed, signed_in, 
 use Rattle.guard.specs.Safe.{HasHeights}
 use Rattle.guard.specs.Members.{OwnVote, NeverCharged}
 use Rattle.guard.specs.declared.Guard.{Guard}
-use Rattle.guard.specs.declared.SignAnswer.{SignAnswer}
-use Rattle.guard.specs.declared.SignAnswer.TheVariants.{Signed, Refused}
+use Rattle.guard.specs.Signing.{SignAnswer}
+use Rattle.std.specs.Prelude.{Ok, Err}
 use Rattle.guard.proofs.Members.{guarded-member}
 
 -- what a call says, and the record afterwards
@@ -138,7 +138,7 @@ abbrev requests : List Request
 requests = ask 0 1 ∷ ask 0 1 ∷ ask 1 2 ∷ ask 2 3 ∷ []
 
 abbrev said : List SignAnswer
-said = Signed ∷ Refused TargetNotAboveLast ∷ Signed ∷ Signed ∷ []
+said = Ok tt ∷ Err TargetNotAboveLast ∷ Ok tt ∷ Ok tt ∷ []
 
 calls : Calls fresh_guard requests said (last_signed 2 3)
 unfolding guard_rows row rewritten_by

@@ -1,8 +1,7 @@
 -- Votes that go up are all signed.
-use Prim.Native.Nat.{ℕ, zero, suc, ◌<◌, suc-le-suc, zero-le}
+use Prim.Native.Nat.{ℕ, suc, ◌<◌, suc-le-suc, zero-le}
 use native.Mathlib.Omega.{arith}
 use mathlib.Core.Path.{◌≡◌, refl, sym, ap, ◌∙◌, subst}
-use mathlib.Core.Logic.{◌⊎◌, inl, inr, ⊎_elim}
 use mathlib.Core.List.{List, [], ◌∷◌}
 use lib.ListN.{length}
 use Rattle.model.specs.Answer.{answer, row_of}
@@ -11,9 +10,9 @@ use Rattle.guard.specs.Signing.{fresh_guard, guard_rows, IsSigning}
 use Rattle.guard.specs.Calls.{Request, Calls, none, call, if_signed, signed_in, request_at}
 use Rattle.guard.specs.Safe.{RisingSigned}
 use Rattle.guard.specs.declared.Guard.{Guard}
-use Rattle.guard.specs.declared.SignAnswer.{SignAnswer}
-use Rattle.guard.specs.declared.SignAnswer.TheVariants.{Signed, Refused}
-use Rattle.guard.proofs.Rows.{passes, passes-fresh}
+use Rattle.guard.specs.Signing.{SignAnswer}
+use Rattle.std.specs.Prelude.{Ok, Err}
+use Rattle.guard.proofs.Rows.{passes}
 use Rattle.guard.proofs.Safe.{After, Passes, last_of, left_signed, Signings, end, next}
 
 -- votes that climb, go up one after the other, and come after a record
@@ -34,14 +33,7 @@ rising g (r ∷ rs) passes rise =
 
 -- rows 65 to 67 pass such a vote
 passes_signed : (g : Guard) (r : Request) → Passes g r → guard_rows g r.source r.target ≡ answer tt
-passes_signed g r p =
-    ⊎_elim (λ u. passes-fresh g r.source r.target p.climbs u)
-    (λ u. passes g r.source r.target p.climbs u (p.after.target u) (p.after.source u))
-    (zero_or_not g.used)
-  where
-    zero_or_not : (n : ℕ) → (n ≡ 0) ⊎ (n ≡ 0 → ⊥)
-    zero_or_not zero = inl refl
-    zero_or_not (suc n) = inr (λ e. absurd (omega arith))
+passes_signed g r p = passes g r.source r.target p.climbs p.after.target p.after.source
 
 signed_all : (g left : Guard) (rs : List Request) (answers : List SignAnswer) → Calls g rs answers left
     → Signings g rs
@@ -55,10 +47,10 @@ signed_all g left rs answers (call {next = after} {r = r} {a = a} {rs = later} {
     go : (a : SignAnswer) → IsSigning g r.source r.target a after → (Signings after later → signed_in later more
         ≡ later)
         → if_signed a r (signed_in later more) ≡ r ∷ later
-    go Signed one ih =
+    go (Ok u) one ih =
         ap (λ (votes : List Request). r ∷ votes)
         (ih (subst (λ (h : Guard). Signings h later) (sym (left_signed g after r one)) rest))
-    go (Refused n) one ih =
+    go (Err n) one ih =
         absurd (omega (arith, (refusal_small n).0, ap row_of (one.answered ∙ passes_signed g r p)))
 
 pub rising_signed : RisingSigned

@@ -20,8 +20,8 @@ use Rattle.guard.specs.Signing.{last_signed, used?, guard_rows, rewritten_by, Is
 use Rattle.guard.specs.Calls.{Request, Calls, none, call, if_signed, signed_in, request_at}
 use Rattle.guard.specs.Safe.{FreshMeets65Only, HasHeights, GuardSafe, RestoredSafe}
 use Rattle.guard.specs.declared.Guard.{Guard}
-use Rattle.guard.specs.declared.SignAnswer.{SignAnswer}
-use Rattle.guard.specs.declared.SignAnswer.TheVariants.{Signed, Refused}
+use Rattle.guard.specs.Signing.{SignAnswer}
+use Rattle.std.specs.Prelude.{Ok, Err}
 
 pub fresh_meets_65_only : FreshMeets65Only
 unfolding guard_rows row
@@ -74,12 +74,12 @@ after_both g r x a b =
 
 -- what a call leaves: the vote signed, or the record as it was
 
-pub left_signed : (g next : Guard) (r : Request) → IsSigning g r.source r.target Signed next → next ≡ last_of r
+pub left_signed : (g next : Guard) (r : Request) → IsSigning g r.source r.target (Ok tt) next → next ≡ last_of r
 unfolding rewritten_by
 left_signed g next r one =
     one.rewritten ∙ ap (λ a. rewritten_by a g r.source r.target) (sym one.answered)
 
-left-refused : (g next : Guard) (r : Request) (n : Refusal) → IsSigning g r.source r.target (Refused n) next →
+left-refused : (g next : Guard) (r : Request) (n : Refusal) → IsSigning g r.source r.target (Err n) next →
     next ≡ g
 unfolding rewritten_by
 left-refused g next r n one =
@@ -100,10 +100,10 @@ signings g left rs answers (call {next = after} {r = r} {a = a} {rs = later} {an
   where
     go : (a : SignAnswer) → IsSigning g r.source r.target a after → Signings after (signed_in later more)
         → Signings g (if_signed a r (signed_in later more))
-    go Signed one rest =
+    go (Ok u) one rest =
         next (signed_passes g r (sym one.answered))
         (subst (λ (h : Guard). Signings h (signed_in later more)) (left_signed g after r one) rest)
-    go (Refused n) one rest = subst (λ (h : Guard). Signings h (signed_in later more)) (left-refused g after r n one)
+    go (Err n) one rest = subst (λ (h : Guard). Signings h (signed_in later more)) (left-refused g after r n one)
         rest
 
 signed_after : {g : Guard} {votes : List Request} → Signings g votes → (k : ℕ) → k < length votes → Passes g

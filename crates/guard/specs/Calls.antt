@@ -1,10 +1,8 @@
 -- Calls on one record, each on the record as the last one left it.
-use Rattle.std.specs.Prelude.{ℕ, ◌≡◌, ◌↔◌, List, [], ◌∷◌, map, get_or}
+use Rattle.std.specs.Prelude.{ℕ, ◌≡◌, ◌↔◌, List, [], ◌∷◌, map, get_or, Ok, Err}
 use Rattle.model.specs.Answer.{Answer, row_of}
-use Rattle.guard.specs.Signing.{guard_rows, record_after, sign_answer_of, IsSigning}
+use Rattle.guard.specs.Signing.{SignAnswer, guard_rows, record_after, sign_answer_of, IsSigning}
 use Rattle.guard.specs.declared.Guard.{Guard}
-use Rattle.guard.specs.declared.SignAnswer.{SignAnswer}
-use Rattle.guard.specs.declared.SignAnswer.TheVariants.{Signed, Refused}
 
 -- a vote put to a guard: the heights of its source and of its target
 pub record Request : Type 0 where
@@ -23,8 +21,8 @@ pub data Calls : (g : Guard) → List Request → List SignAnswer → (left : Gu
 -- the requests that were answered by a signature, in their order
 
 unfoldable pub if_signed : SignAnswer → Request → List Request → List Request
-if_signed Signed r later = r ∷ later
-if_signed (Refused n) r later = later
+if_signed (Ok u) r later = r ∷ later
+if_signed (Err n) r later = later
 
 unfoldable pub signed_in : List Request → List SignAnswer → List Request
 signed_in [] answers = []
@@ -61,7 +59,7 @@ pub record SignedByNumber (g : Guard) (s t n : ℕ) (after : Guard) : Type 0 whe
   pub said : SignAnswer
   pub is_call : IsSigning g s t said after
   pub number : n ≡ row_of (sign_answer_of said)
-  pub zero : (n ≡ 0) ↔ (said ≡ Signed)
+  pub zero : (n ≡ 0) ↔ (said ≡ Ok tt)
 
 abbrev pub ExportedIsCall : Type 0
 ExportedIsCall =

@@ -9,7 +9,7 @@ use Rattle.model.specs.Model.{Model, vote_at}
 use Rattle.guard.specs.Calls.{Request, Calls, signed_in, request_at}
 use Rattle.guard.specs.Safe.{HasHeights}
 use Rattle.guard.specs.declared.Guard.{Guard}
-use Rattle.guard.specs.declared.SignAnswer.{SignAnswer}
+use Rattle.guard.specs.Signing.{SignAnswer}
 
 -- k is the number of a held vote of the member with this id
 pub record OwnVote (m : Model) (id k : ℕ) : Type 0 where

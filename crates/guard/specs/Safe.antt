@@ -3,10 +3,9 @@ use Rattle.std.specs.Prelude.{ℕ, ◌<◌, ◌≤◌, ◌≡◌, List, not, len
 use Rattle.model.specs.Answer.{answer, row}
 use Rattle.model.specs.Model.{Model, Vote, height_of}
 use Rattle.model.specs.Slashing.{Breaks}
-use Rattle.guard.specs.Signing.{last_signed, fresh_guard, guard_rows}
+use Rattle.guard.specs.Signing.{SignAnswer, last_signed, fresh_guard, guard_rows}
 use Rattle.guard.specs.Calls.{Request, Calls, signed_in, request_at}
 use Rattle.guard.specs.declared.Guard.{Guard}
-use Rattle.guard.specs.declared.SignAnswer.{SignAnswer}
 
 -- "A fresh record meets check 65 only."
 abbrev pub FreshMeets65Only : Type 0

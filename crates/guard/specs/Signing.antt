@@ -1,10 +1,13 @@
 -- One vote put to the guard: rows 65 to 67 and the record afterwards.
-use Rattle.std.specs.Prelude.{ℕ, ◌≡◌, Bool, ◌&&◌, not, eqb, ltb}
+use Rattle.std.specs.Prelude.{ℕ, ◌≡◌, Bool, ◌&&◌, not, eqb, ltb, Result}
 use Rattle.model.specs.Answer.{Answer, refused, answer, row}
-use Rattle.model.specs.Refusals.{refusal_number}
+use Rattle.model.specs.Refusals.{answer_of}
+use Rattle.model.specs.declared.Refusal.{Refusal}
 use Rattle.guard.specs.declared.Guard.{Guard}
-use Rattle.guard.specs.declared.SignAnswer.{SignAnswer}
-use Rattle.guard.specs.declared.SignAnswer.TheVariants.{Signed, Refused}
+
+-- what a call gives: the vote may be signed, or why not
+abbrev pub SignAnswer : Type 0
+SignAnswer = Result (Unit {0}) Refusal
 
 -- the record that remembers these heights, and one that has signed nothing
 
@@ -38,8 +41,7 @@ record_after g s t = rewritten_by (guard_rows g s t) g s t
 
 -- what a call says
 abbrev pub sign_answer_of : SignAnswer → Answer (Unit {0})
-sign_answer_of Signed = answer tt
-sign_answer_of (Refused r) = refused (refusal_number r)
+sign_answer_of r = answer_of (λ u. tt) r
 
 -- a call on the record g, signed or refused: what it says, and the record afterwards
 pub record IsSigning (g : Guard) (s t : ℕ) (r : SignAnswer) (after : Guard) : Type 0 where

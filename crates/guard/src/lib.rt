@@ -12,24 +12,17 @@ use model::{Height, Refusal};
 // was one: `used` is 0 until a vote is signed, and 1 from then on. It is a number and no bool, and as long as a height,
 // so that any 12 bytes are a record: there is no padding, and whatever is not 0 counts as 1.
 #[repr(C)]
-#[derive(Clone, Copy)]
+#[derive(Clone, Copy, Debug, PartialEq, Eq)]
 pub struct Guard {
     pub source: Height,
     pub target: Height,
     pub used: u32,
 }
 
-// What a guard answers: the vote may be signed, or why not.
-#[derive(Clone, Copy)]
-pub enum SignAnswer {
-    Signed,
-    Refused(Refusal),
-}
-
-// The answer, and the record afterwards.
-#[derive(Clone, Copy)]
+// The answer, that the vote may be signed or why not; and the record afterwards.
+#[derive(Clone, Copy, Debug, PartialEq, Eq)]
 pub struct Signing {
-    pub answer: SignAnswer,
+    pub answer: Result<(), Refusal>,
     pub guard: Guard,
 }
 
@@ -45,59 +38,51 @@ pub fn fresh() -> Guard
 }
 
 // The row that refuses a vote of these heights: 65, 66 or 67, in this order. A fresh record meets 65 only.
-fn judge(g: Guard, source: Height, target: Height) -> SignAnswer
+fn judge(g: Guard, source: Height, target: Height) -> Result<(), Refusal>
     ensures { sign_answer_of result ≡ guard_rows g source.0 target.0 }
 {
-    if target.0 <= source.0 {
-        return SignAnswer::Refused(Refusal::SourceNotBelowTarget);
+    if target <= source {
+        return Err(Refusal::SourceNotBelowTarget);
     }
     if g.used != 0 {
-        if target.0 <= g.target.0 {
-            return SignAnswer::Refused(Refusal::TargetNotAboveLast);
+        if target <= g.target {
+            return Err(Refusal::TargetNotAboveLast);
         }
-        if source.0 < g.source.0 {
-            return SignAnswer::Refused(Refusal::SourceBelowLast);
+        if source < g.source {
+            return Err(Refusal::SourceBelowLast);
         }
     }
-    SignAnswer::Signed
+    Ok(())
 }
 
-// A vote of these heights, by value: it may be signed, and the record then has its heights; or a row refuses it, and
-// the record is as it was.
-pub fn step(g: Guard, source: Height, target: Height) -> Signing
-    ensures { IsSigning g source.0 target.0 result.answer result.guard }
+// A vote of these heights, on the record in the host's memory, which is lent: the vote may be signed, and the record
+// then has its heights; or a row refuses it, and the record is as it was.
+pub fn sign(g: &mut Guard, source: Height, target: Height) -> Result<(), Refusal>
+    ensures { IsSigning g.old source.0 target.0 result g.new }
 {
-    let answer = judge(g, source, target);
-    let signed = Guard {
+    judge(*g, source, target)?;
+    *g = Guard {
         source,
         target,
         used: 1,
     };
-    match answer {
-        SignAnswer::Signed => Signing {
-            answer,
-            guard: signed,
-        },
-        SignAnswer::Refused(_) => Signing { answer, guard: g },
-    }
+    Ok(())
 }
 
-// The same on the record in the host's memory, the form that document 01 names: it is lent, and rewritten there at a
-// signing.
-pub fn sign(g: &mut Guard, source: Height, target: Height) -> SignAnswer
-    ensures { IsSigning g.old source.0 target.0 result g.new }
+// The same by value.
+pub fn step(mut g: Guard, source: Height, target: Height) -> Signing
+    ensures { IsSigning g source.0 target.0 result.answer result.guard }
 {
-    let signing = step(*g, source, target);
-    *g = signing.guard;
-    signing.answer
+    let answer = sign(&mut g, source, target);
+    Signing { answer, guard: g }
 }
 
 // The row that refuses a vote, or 0.
-pub fn row_of(a: SignAnswer) -> u64
+pub fn row_of(a: Result<(), Refusal>) -> u64
     ensures { result ≡ row_of (sign_answer_of a) }
 {
     match a {
-        SignAnswer::Signed => 0,
-        SignAnswer::Refused(r) => refusals::refusal_number(r) as u64,
+        Ok(()) => 0,
+        Err(r) => u64::from(u8::from(r)),
     }
 }

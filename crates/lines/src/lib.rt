@@ -11,7 +11,7 @@ use model::{Height, Place, Refusal, Status};
 use text::{put, put_number};
 
 // Two labels, each with its number after it: what stands before a line's ending.
-fn pair<'a>(buf: &mut [u8], at: usize, first: &'a [u8], m: u64, second: &'a [u8], n: u64) -> usize
+fn pair(buf: &mut [u8], at: usize, first: &[u8], m: u64, second: &[u8], n: u64) -> usize
     requires { at + (length first.now + length second.now + 40) ≤ length buf.old }
     ensures { Put buf.old at (first.now ++ decimal m ++ second.now ++ decimal n)
         buf.new result

@@ -8,11 +8,11 @@ use Rattle.model.specs.Decide.{bars_root, risks_evidence, drops_higher, decide_m
 use Rattle.model.specs.Model.{Model, place_held}
 use Rattle.model.specs.Refusals.{refusal_number}
 use Rattle.model.specs.declared.Refusal.{Refusal}
-use Rattle.state.specs.Reading.{outcome_of, brief}
+use Rattle.state.specs.Reading.{brief}
 use Rattle.state.specs.State.{store, store_all, stored, with_root}
-use Rattle.state.specs.declared.Outcome.TheVariants.{Taken}
+use Rattle.std.specs.Prelude.{Ok}
 use Rattle.state.specs.declared.Witness.{Witness}
-use Rattle.mover.specs.Moved.{IsMoved, refused_move}
+use Rattle.mover.specs.Moved.{IsMoved, moved_of, refused_move}
 use Rattle.mover.specs.declared.Moved.{Moved}
 
 pub move_rows_lem : (m : Model) (r : ℕ) {b41 b70 b71 b72 : Bool}
@@ -31,12 +31,12 @@ module _ (w : Witness) {a : Answer Change} where
   refused_move_lem e is =
       let d = ap single (sym is) in
       record {
-        outcome = ap (λ (x : Moved). outcome_of x.outcome) e ∙ ap (λ (x : Decision). brief x.told) d;
+        outcome = ap (λ (x : Moved). moved_of x.outcome) e ∙ ap (λ (x : Decision). brief x.told) d;
         witness = ap (λ (x : Moved). x.witness) e ∙ ap (stored w) d;
       }
 
   pub taken_move : {r : ℕ} {v : Witness} → v ≡ with_root w r → a ≡ answer (move_root r)
-      → IsMoved w (single a) (record { outcome = Taken; witness = v })
+      → IsMoved w (single a) (record { outcome = Ok tt; witness = v })
   unfolding single store_all store brief
   taken_move e is =
       let d = ap single (sym is) in

@@ -15,12 +15,12 @@ ghost use Rattle.mover.specs.Moved.{IsMoved, refused_move, VotesKept, ChargesWit
 use evidence::{Charges, list_charges};
 use model::{MAX_ROOT_HEIGHT, MAX_VOTES, Place, Refusal, Status};
 use pruning::{Kept, kept_by, prune};
-use state::{Outcome, Witness};
+use state::Witness;
 
 // What a move came to, taken or refused, and the witness as it is then: a refusal leaves the one handed in.
 #[derive(Clone, Copy)]
 pub struct Moved {
-    pub outcome: Outcome,
+    pub outcome: Result<(), Refusal>,
     pub witness: Witness,
 }
 
@@ -117,7 +117,7 @@ pub fn refuse(w: Witness, why: Refusal) -> Moved
     ensures { result ≡ refused_move w why }
 {
     Moved {
-        outcome: Outcome::Refused(why),
+        outcome: Err(why),
         witness: w,
     }
 }
@@ -144,7 +144,7 @@ pub fn move_root(w: Witness, r: Place) -> Moved
         return refuse(w, Refusal::HigherVoteDropped);
     }
     Moved {
-        outcome: Outcome::Taken,
+        outcome: Ok(()),
         witness: prune(w, r, k),
     }
 }

@@ -9,7 +9,9 @@ use mathlib.Core.Bool.{false}
 use borrow.Author.Tests.{eqb-false}
 use lib.Dec.{eqb}
 use lib.ListN.{length, drop, replicate, length-drop, length-append}
+use Rattle.std.specs.Prelude.{Result, None, Some}
 use Rattle.model.specs.Answer.{Answer, answer}
+use Rattle.model.specs.declared.Refusal.{Refusal}
 use Rattle.model.specs.Bytes.{AreBytes}
 use Rattle.model.specs.Change.{Told, nothing_left}
 use Rattle.model.specs.Decide.{decide}
@@ -17,12 +19,11 @@ use Rattle.model.specs.Log.{record_length}
 use Rattle.model.proofs.Lists.{lt_or_ge}
 use Rattle.state.specs.Reading.{outcome_of, brief, rows_of_votes, padded}
 use Rattle.state.specs.State.{model_of, stored}
-use Rattle.state.specs.declared.Outcome.{Outcome}
+use Rattle.state.specs.declared.Passed.{Passed}
 use Rattle.state.specs.declared.Witness.{Witness}
 use Rattle.entries.specs.Entries.{entries}
 use Rattle.reader.specs.Many.{Ended, ended_by, Many, read_many, last_told, end_of, ended_told, IsBatch}
 use Rattle.reader.specs.declared.Batch.{Batch}
-use Rattle.reader.specs.declared.End.TheVariants.{Spent, EndedBy}
 use Rattle.reader.proofs.Made.{length-inside, while_passed, Stops, Ends, many-ends, not_both, some-told}
 use Rattle.reader.proofs.Single.{no-votes}
 use Rattle.reader.proofs.Runs.{last-is, any_last}
@@ -88,7 +89,7 @@ module _ {whole : Reads} {limit : ℕ} {log : List ℕ} {t : Answer Told} {k : �
   so_far = subst (λ (j : ℕ). Sofar whole limit log (last_told t m.passed) (k + j) r.witness r.next) (sym call.is.records) reached.read
 
   -- where more could be read and told, a record that cannot be passed is there
-  module _ (o : Outcome) (ended : r.end ≡ EndedBy o) where
+  module _ (o : Result Passed Refusal) (ended : r.end ≡ Some o) where
     said : ended_by (outcome_of o) ≡ m.end
     said = sym (ap end_of ended) ∙ call.is.end
 
@@ -117,7 +118,7 @@ module _ {whole : Reads} {limit : ℕ} {log : List ℕ} {t : Answer Told} {k : �
         ∙ ap shown (stops-here so_far inside one_more none)
 
   -- no more may be read: some were
-  pub passed-some : r.end ≡ Spent → 0 < r.records
+  pub passed-some : r.end ≡ None → 0 < r.records
   passed-some e =
       ⊎_elim
       (λ h. ⊎_elim (λ all. omega (arith, all, call.is.records, call.below)) (λ short. omega (arith, call.is.records, some-told m.passed (omega (arith, short, call.roomy)))) h.1)
@@ -131,14 +132,14 @@ module _ {whole : Reads} {limit : ℕ} {log : List ℕ} {t : Answer Told} {k : �
       (any_last t (answer nothing_left) m.passed (omega (arith, call.is.records))) so_far
 
 -- what the code has of what was told last
-pub record Held (whole : Reads) (limit : ℕ) (log : List ℕ) (last : Outcome) (votes : List ℕ) (k : ℕ) (w : Witness) (at : ℕ) : Type 0 where
+pub record Held (whole : Reads) (limit : ℕ) (log : List ℕ) (last : Result Passed Refusal) (votes : List ℕ) (k : ℕ) (w : Witness) (at : ℕ) : Type 0 where
   pub told : Answer Told
   pub so : Sofar whole limit log told k w at
   pub last-is : outcome_of last ≡ brief told
   pub votes_are : votes ≡ padded (rows_of_votes told)
 
 -- what was read is all, then
-pub held_all : {whole : Reads} {limit : ℕ} {log : List ℕ} {last : Outcome} {votes : List ℕ} {k : ℕ} {w : Witness} {at : ℕ} (h : Held whole limit log last votes k w at)
+pub held_all : {whole : Reads} {limit : ℕ} {log : List ℕ} {last : Result Passed Refusal} {votes : List ℕ} {k : ℕ} {w : Witness} {at : ℕ} (h : Held whole limit log last votes k w at)
     → record { last = h.told; records = k; witness = w } ≡ whole
     → record { last = outcome_of last; rows = votes; records = k; witness = w } ≡ shown whole
 held_all {k = k} {w} h e = (λ i. record { last = h.last-is i; rows = h.votes_are i; records = k; witness = w }) ∙ ap shown e

@@ -9,6 +9,7 @@ use borrow.Author.Tests.{eq-eqb}
 use lib.Dec.{eqb}
 use lib.ListN.{length, drop, replicate, length-drop}
 use lib.Seq.{drop-drop}
+use Rattle.std.specs.Prelude.{Ok, Err}
 use Rattle.model.specs.Answer.{Answer, refused, answer}
 use Rattle.model.specs.Bytes.{AreBytes, part}
 use Rattle.model.specs.Change.{Told, nothing_left, Decision}
@@ -21,8 +22,7 @@ use Rattle.state.specs.Reading.{brief, rows_of_votes, start_of, begin_with, IsBe
 use Rattle.state.specs.State.{empty_witness, model_of, stored}
 use Rattle.state.specs.declared.Witness.{Witness}
 use Rattle.state.specs.declared.Beginning.{Beginning}
-use Rattle.state.specs.declared.Outcome.TheVariants.{Nothing}
-use Rattle.state.specs.declared.Start.TheVariants.{Begun, Refused as RefusedHeader}
+use Rattle.state.specs.declared.Passed.TheVariants.{Nothing}
 use Rattle.witness.specs.Calls.{event_call}
 use Rattle.guarantee.specs.Demand3.{witness_after, told_of}
 use Rattle.guarantee.specs.LogRead.{Reads, read_on, records_of, replayed}
@@ -134,35 +134,35 @@ module _ {whole : Reads} {limit : ℕ} {log : List ℕ} {t : Answer Told} {k : �
 
 module _ (w : Witness) (log : List ℕ) (limit : ℕ) (r : Beginning) (is : IsBeginning w (part 5 32 log) (header log) r) where
   -- a witness that was begun has the header's name, and is empty
-  begun-header : r.outcome ≡ Begun → header log ≡ answer (part 5 32 log)
+  begun-header : r.outcome ≡ Ok (record {}) → header log ≡ answer (part 5 32 log)
   begun-header e = sym is.outcome ∙ ap (start_of (part 5 32 log)) e
 
-  begun_empty : r.outcome ≡ Begun → r.witness ≡ empty_witness (part 5 32 log)
+  begun_empty : r.outcome ≡ Ok (record {}) → r.witness ≡ empty_witness (part 5 32 log)
   unfolding begin_with
   begun_empty e = is.witness ∙ ap (begin_with w) (begun-header e)
 
-  pub begun-sound : r.outcome ≡ Begun → Sound r.witness
+  pub begun-sound : r.outcome ≡ Ok (record {}) → Sound r.witness
   begun-sound e =
       let name = part 5 32 log in
       subst Sound (sym (begun_empty e)) (empty_sound name (header-name log name (begun-header e)))
 
-  pub begun_replay : r.outcome ≡ Begun → (read : Read) → read_of read ≡ shown (read_on (answer nothing_left) 0 r.witness (records_of limit log))
-      → IsReplay w log limit (record { start = Begun; read = read })
+  pub begun_replay : r.outcome ≡ Ok (record {}) → (read : Read) → read_of read ≡ shown (read_on (answer nothing_left) 0 r.witness (records_of limit log))
+      → IsReplay w log limit (record { start = r.outcome; read = read })
   unfolding replayed
   begun_replay e read h = record {
-    start = sym (begun-header e);
+    start = is.outcome;
     read =
         h ∙ ap (λ (v : Witness). shown (read_on (answer nothing_left) 0 v (records_of limit log))) (begun_empty e)
         ∙ ap (λ (x : Answer (List ℕ)). shown (replayed w log limit x)) (sym (begun-header e));
   }
 
-  pub refused_replay : (f : Refusal) → r.outcome ≡ RefusedHeader f
-      → IsReplay w log limit (record { start = RefusedHeader f; read = record { last = Nothing; rows = replicate 128 0; records = 0; witness = r.witness } })
+  pub refused_replay : (f : Refusal) → r.outcome ≡ Err f
+      → IsReplay w log limit (record { start = r.outcome; read = record { last = Ok Nothing; rows = replicate 128 0; records = 0; witness = r.witness } })
   unfolding replayed begin_with brief rows_of_votes
   refused_replay f e =
       let refused-is : header log ≡ refused (refusal_number f) = sym is.outcome ∙ ap (start_of (part 5 32 log)) e in
       record {
-        start = sym refused-is;
+        start = is.outcome;
         read =
             ap (λ (v : Witness). shown (record { last = answer nothing_left; records = 0; witness = v })) (is.witness ∙ ap (begin_with w) refused-is)
             ∙ ap (λ (x : Answer (List ℕ)). shown (replayed w log limit x)) (sym refused-is);

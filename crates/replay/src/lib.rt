@@ -10,9 +10,8 @@ ghost use Rattle.state.specs.Sound.{Sound};
 ghost use Rattle.guarantee.specs.LogRead.{read_on};
 ghost use Rattle.replay.specs.IsReplay.{shown, read_of, IsReplay};
 
-use model::MAX_MEMBERS;
-use reader::End;
-use state::{Outcome, Start, Witness};
+use model::{MAX_MEMBERS, Refusal};
+use state::{Outcome, Passed, Witness};
 
 // What reading came to: what the last record read came to (`Nothing` where none was read); where that is a bundle
 // that is not refused whole, the row that refused each of its votes, or 0; how many records were read; and the witness.
@@ -33,11 +32,11 @@ fn read_rest(w: Witness, log: &[u8], from: usize, limit: u64) -> Read
 {
     let mut held = w;
     let mut at = from;
-    let mut last = Outcome::Nothing;
+    let mut last = Ok(Passed::Nothing);
     let mut votes = [0u8; MAX_MEMBERS];
     let mut records: u64 = 0;
     let mut rows = [0u8; 1024];
-    while (at < log.len()) & (records < limit) {
+    while at < log.len() && records < limit {
         let r = log_reader::read_from(held, log, at, limit - records, &mut rows);
         let end = r.end;
         held = r.witness;
@@ -45,18 +44,15 @@ fn read_rest(w: Witness, log: &[u8], from: usize, limit: u64) -> Read
         last = r.last;
         votes = entries::last_votes(&rows, r.used, last);
         records += r.records;
-        match end {
-            End::EndedBy(outcome) => {
-                if at < log.len() {
-                    return Read {
-                        last: outcome,
-                        rows: [0u8; MAX_MEMBERS],
-                        records: records + 1,
-                        witness: held,
-                    };
-                }
+        if let Some(outcome) = end {
+            if at < log.len() {
+                return Read {
+                    last: outcome,
+                    rows: [0u8; MAX_MEMBERS],
+                    records: records + 1,
+                    witness: held,
+                };
             }
-            End::Spent => {}
         }
     }
     Read {
@@ -71,7 +67,7 @@ fn read_rest(w: Witness, log: &[u8], from: usize, limit: u64) -> Read
 // one handed in.
 #[derive(Clone, Copy)]
 pub struct Replayed {
-    pub start: Start,
+    pub start: Result<(), Refusal>,
     pub read: Read,
 }
 
@@ -83,22 +79,14 @@ pub fn replay(w: Witness, log: &[u8], limit: u64) -> Replayed
     let begun = state::begin(w, log);
     let start = begun.outcome;
     let empty = begun.witness;
-    match start {
-        Start::Begun => {
-            let read = read_rest(empty, log, 37, limit);
-            Replayed {
-                start: Start::Begun,
-                read,
-            }
-        }
-        Start::Refused(refusal) => Replayed {
-            start: Start::Refused(refusal),
-            read: Read {
-                last: Outcome::Nothing,
-                rows: [0u8; MAX_MEMBERS],
-                records: 0,
-                witness: empty,
-            },
+    let read = match start {
+        Ok(()) => read_rest(empty, log, 37, limit),
+        Err(_) => Read {
+            last: Ok(Passed::Nothing),
+            rows: [0u8; MAX_MEMBERS],
+            records: 0,
+            witness: empty,
         },
-    }
+    };
+    Replayed { start, read }
 }

@@ -1,12 +1,13 @@
 -- What the public calls give back: row 40, the header, and the end of the log.
 use Prim.Native.Nat.{ℕ, ◌<◌, ◌≤◌}
-use native.Mathlib.Omega.{arith}
 use mathlib.Core.Path.{◌≡◌, refl, sym, ap, ap₂, ◌∙◌, subst}
 use mathlib.Core.List.{List, []}
+use mathlib.Core.Logic.{◌⊎◌, ⊎_elim}
 use mathlib.Core.Bool.{Bool, true, false, cond, not, ◌&&◌}
 use borrow.Author.Tests.{eq-eqb, ne_eqb, lt-ltb, le-ltb}
 use lib.Dec.{ltb}
 use lib.ListN.{length}
+use Rattle.std.specs.Prelude.{Ok, Err}
 use Rattle.model.specs.Answer.{Answer, refused, answer}
 use Rattle.model.specs.Bytes.{part}
 use Rattle.model.specs.Log.{header}
@@ -17,13 +18,11 @@ use Rattle.model.specs.declared.Refusal.{Refusal}
 use Rattle.state.specs.Reading.{start_of, begin_with, IsBeginning}
 use Rattle.state.specs.State.{model_of}
 use Rattle.state.specs.declared.Beginning.{Beginning}
-use Rattle.state.specs.declared.Start.TheVariants.{Begun, Refused as RefusedHeader}
 use Rattle.state.specs.declared.Witness.{Witness}
-use Rattle.text.proofs.Putting.{none}
 use Rattle.state.specs.Sound.{sound?}
 use Rattle.feeding.specs.Feed.{Feeding, full, ended, wants, refused_by, paused_at, line_room, on_sound, headed, open_call, end_text, end_fed, IsFed}
 use Rattle.feeding.specs.declared.Fed.{Fed}
-use Rattle.feeding.specs.declared.Pause.TheVariants.{Wants}
+use Rattle.feeding.proofs.Told.{fed-as}
 
 -- ---- row 40
 
@@ -43,10 +42,13 @@ module _ (w : Witness) (log : List ℕ) (last : Bool) (room : ℕ) where
   open_branch short no_room s r =
       ap₂ (λ (a b : Bool). cond a (paused_at [] wants w 0) (cond b (paused_at [] full w 0) (headed w (header log)))) (sym s) (sym r)
 
-  pub open_short : (ltb (length log) 37 && not last) ≡ true → paused_at [] wants w 0 ≡ open_call last room w log
-  open_short s = open_branch true (ltb room line_room) s refl
+  pub open_short : length log < 37 → last ≡ false → paused_at [] wants w 0 ≡ open_call last room w log
+  open_short h more = open_branch true (ltb room line_room) (ap₂ (λ (a b : Bool). a && not b) (lt-ltb (length log) 37 h) more) refl
 
-  module _ (long : (ltb (length log) 37 && not last) ≡ false) where
+  module _ (judged : ((length log < 37) × (last ≡ true)) ⊎ (37 ≤ length log)) where
+    long : (ltb (length log) 37 && not last) ≡ false
+    long = ⊎_elim (λ h. ap₂ (λ (a b : Bool). a && not b) (lt-ltb (length log) 37 h.0) h.1) (λ h. ap (λ (b : Bool). b && not last) (le-ltb (length log) 37 h)) judged
+
     pub open_full : room < 64 → paused_at [] full w 0 ≡ open_call last room w log
     open_full short = open_branch false true long (lt-ltb room line_room short)
 
@@ -54,15 +56,15 @@ module _ (w : Witness) (log : List ℕ) (last : Bool) (room : ℕ) where
       has_room : (h : Answer (List ℕ)) → h ≡ header log → headed w h ≡ open_call last room w log
       has_room h e = ap (headed w) e ∙ open_branch false false long (le-ltb room line_room fits)
 
-      pub open_begun : (buf : List ℕ) → r.outcome ≡ Begun → IsFed (open_call last room w log) 0 0 buf (record { pause = Wants; next = 37; records = 0; written = 0; witness = r.witness }) buf
+      pub open_begun : (buf : List ℕ) (f : Fed) → r.outcome ≡ Ok (record {}) → IsFed (paused_at [] wants r.witness 0) 37 0 buf f buf → IsFed (open_call last room w log) 0 0 buf f buf
       unfolding headed begin_with
-      open_begun buf e =
+      open_begun buf f e fed =
           let name = part 5 32 log in
           let right : answer name ≡ header log = sym (ap (start_of name) e) ∙ is.outcome in
-          subst (λ (f : Feeding). IsFed f 0 0 buf (record { pause = Wants; next = 37; records = 0; written = 0; witness = r.witness }) buf) (has_room (answer name) right)
-          (record { pause = refl; next = omega arith; records = refl; witness = is.witness ∙ ap (begin_with w) (sym right); text = none buf 0 (omega arith) })
+          fed-as (has_room (answer name) right)
+          (record { pause = fed.pause; next = fed.next; records = fed.records; witness = fed.witness ∙ is.witness ∙ ap (begin_with w) (sym right); text = fed.text })
 
-      pub open_refused : (f : Refusal) → r.outcome ≡ RefusedHeader f → paused_at (stopped_line (refusal_number f) 0) ended r.witness 0 ≡ open_call last room w log
+      pub open_refused : (f : Refusal) → r.outcome ≡ Err f → paused_at (stopped_line (refusal_number f) 0) ended r.witness 0 ≡ open_call last room w log
       unfolding headed begin_with
       open_refused f e =
           let wrong : refused (refusal_number f) ≡ header log = sym (ap (start_of (part 5 32 log)) e) ∙ is.outcome in

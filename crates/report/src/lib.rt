@@ -10,7 +10,7 @@ ghost use Rattle.feeding.specs.Feed.{refused_by, paused_at, open_call, feed_call
 
 use feeding::{Fed, Pause};
 use model::Refusal;
-use state::{Start, Witness};
+use state::Witness;
 
 // The log's first bytes, the header among them: rows 1 to 3 end the report. `last` says that the log has no more bytes;
 // where it may have, fewer than a header's are not yet judged. Any witness may be handed in. The records begin at the
@@ -19,39 +19,21 @@ pub fn open(w: Witness, log: &[u8], last: bool, buf: &mut [u8]) -> Fed
     ensures { IsFed (open_call last (length buf.old) w log.now) 0 0 buf.old result
         buf.new }
 {
-    if (log.len() < 37) & !last {
-        return Fed {
-            pause: Pause::Wants,
-            next: 0,
-            records: 0,
-            written: 0,
-            witness: w,
-        };
+    if log.len() < 37 && !last {
+        return Fed::paused(Ok(Pause::Wants), 0, 0, w);
     }
     if buf.len() < 64 {
-        return Fed {
-            pause: Pause::Full,
-            next: 0,
-            records: 0,
-            written: 0,
-            witness: w,
-        };
+        return Fed::paused(Ok(Pause::Full), 0, 0, w);
     }
     let begun = state::begin(w, log);
-    let start = begun.outcome;
+    let outcome = begun.outcome;
     let held = begun.witness;
-    match start {
-        Start::Begun => Fed {
-            pause: Pause::Wants,
-            next: 37,
-            records: 0,
-            written: 0,
-            witness: held,
-        },
-        Start::Refused(r) => {
+    match outcome {
+        Ok(()) => Fed::paused(Ok(Pause::Wants), 37, 0, held),
+        Err(r) => {
             let written = lines::stopped_line(buf, 0, r, 0);
             Fed {
-                pause: Pause::Ended,
+                pause: Ok(Pause::Ended),
                 next: 0,
                 records: 0,
                 written,
@@ -65,13 +47,7 @@ pub fn open(w: Witness, log: &[u8], last: bool, buf: &mut [u8]) -> Fed
 fn unsound(w: Witness, records: u64, at: usize) -> Fed
     ensures { (buf : List ℕ) → IsFed (paused_at [] (refused_by 40) w records) at 0 buf result buf }
 {
-    Fed {
-        pause: Pause::Refused(Refusal::UnsoundState),
-        next: at,
-        records,
-        written: 0,
-        witness: w,
-    }
+    Fed::paused(Err(Refusal::UnsoundState), at, records, w)
 }
 
 // The records of a piece from `at` on, the first of them record `records`: the lines of those that are refused. A
@@ -107,17 +83,11 @@ fn put_end(w: Witness, records: u64, left: usize, buf: &mut [u8]) -> Fed
     let mut whole = [0u8; 65536];
     let n = last_text(w, records, left, &mut whole);
     if buf.len() < n {
-        return Fed {
-            pause: Pause::Full,
-            next: 0,
-            records,
-            written: 0,
-            witness: w,
-        };
+        return Fed::paused(Ok(Pause::Full), 0, records, w);
     }
     let written = text::put(buf, 0, &whole[..n]);
     Fed {
-        pause: Pause::Ended,
+        pause: Ok(Pause::Ended),
         next: 0,
         records,
         written,

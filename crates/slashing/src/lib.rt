@@ -10,12 +10,12 @@ use model::Height;
 fn surrounds(s1: Height, t1: Height, s2: Height, t2: Height) -> bool
     ensures { result ≡ surround s1.0 t1.0 s2.0 t2.0 }
 {
-    (s1.0 < s2.0) & (s2.0 < t2.0) & (t2.0 < t1.0)
+    (s1 < s2) & (s2 < t2) & (t2 < t1)
 }
 
 // Whether the votes s1 -> t1 and s2 -> t2 break a condition.
 pub fn breaks(s1: Height, t1: Height, s2: Height, t2: Height) -> bool
     ensures { result ≡ heights_break s1.0 t1.0 s2.0 t2.0 }
 {
-    (t1.0 == t2.0) | surrounds(s1, t1, s2, t2) | surrounds(s2, t2, s1, t1)
+    (t1 == t2) | surrounds(s1, t1, s2, t2) | surrounds(s2, t2, s1, t1)
 }

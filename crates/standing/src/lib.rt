@@ -6,74 +6,62 @@ ghost use Rattle.std.specs.Prelude.{◌≡◌, ◌<◌};
 ghost use Rattle.model.specs.Limits.{checkpoint_limit};
 ghost use Rattle.state.specs.Sound.{Sound};
 ghost use Rattle.state.specs.State.{model_of};
+ghost use Rattle.tally.specs.Ready.{Ready};
 ghost use Rattle.standing.specs.Answers.{IsAnalysis, status_in};
 
 use model::{MAX_CHECKPOINTS, Place, Status};
 use state::Witness;
-use tally::{links, votes};
+use tally::links::{self, Mark};
+use tally::votes::{self, Ballots};
 use voters::Voters;
 
-// For each place whether it is justified, and whether that would make it final: it is the root, or a link with a quorum
-// leads from it to a direct child.
+// What is known of each place.
 #[derive(Clone, Copy)]
 pub struct Analysis {
-    pub justified: [bool; MAX_CHECKPOINTS],
-    pub finalizing: [bool; MAX_CHECKPOINTS],
+    pub marks: [Mark; MAX_CHECKPOINTS],
 }
 
-// One pass over the places. Places below t are marked when the links to t are counted, for a source's place is below
-// its target's.
-pub fn statuses(w: Witness) -> Analysis
-    requires { Sound w }
-    ensures { IsAnalysis (model_of w) result }
+// One pass over the places, by the votes that are ready to be counted. Places below t are marked when the links to t
+// are counted, for a source's place is below its target's.
+pub fn analyse(w: &Witness, b: &Ballots) -> Analysis
+    requires { Ready w.now b.now }
+    ensures { IsAnalysis (model_of w.now) result }
 {
-    let members = w.member_count;
-    let places = w.checkpoint_count;
-    let parents = w.parents;
-    let b = votes::prepare(w);
-    let who = b.who;
-    let from = b.from;
-    let head = b.head;
-    let next = b.next;
-    let bar = b.bar;
-    let mut justified = [false; MAX_CHECKPOINTS];
-    let mut finalizing = [false; MAX_CHECKPOINTS];
-    justified[0] = true;
-    finalizing[0] = true;
-    let mut t: usize = 1;
-    while t < places {
-        let mut lo = [0u64; MAX_CHECKPOINTS];
-        let mut hi = [0u64; MAX_CHECKPOINTS];
-        votes::gather(&who, &from, &next, head[t], &mut lo, &mut hi);
-        let to = t as u16;
-        let reached = links::reaches(&lo, &hi, &justified, Place(to), &w.bonds, members, bar);
-        justified[t] = reached;
-        let parent = parents[t];
-        let p = parent.0 as usize;
-        let v = Voters {
-            lo: lo[p],
-            hi: hi[p],
-        };
-        finalizing[p] = finalizing[p] | voters::carries(v, &w.bonds, members, bar);
-        t += 1;
+    let bonds = &w.bonds[..w.member_count];
+    let mut marks = [Mark::NONE; MAX_CHECKPOINTS];
+    marks[0].justified = true;
+    marks[0].finalizing = true;
+    for t in 1..w.checkpoint_count {
+        let mut voters = [Voters::NOBODY; MAX_CHECKPOINTS];
+        votes::gather(b, &w.sources, Place(t as u16), &mut voters);
+        marks[t].justified = links::reaches(&voters[..t], &marks, bonds, b.bar);
+        let p = w.parents[t].0 as usize;
+        marks[p].finalizing |= voters[p].carries(bonds, b.bar);
     }
-    Analysis {
-        justified,
-        finalizing,
-    }
+    Analysis { marks }
 }
 
-// The standing of a place, by an analysis.
-pub fn status_of(a: Analysis, p: Place) -> Status
-    requires { p.0 < checkpoint_limit }
-    ensures { result ≡ status_in a p.0 }
+// What is known of each place of a sound state.
+pub fn statuses(w: &Witness) -> Analysis
+    requires { Sound w.now }
+    ensures { IsAnalysis (model_of w.now) result }
 {
-    let at = p.0 as usize;
-    if a.justified[at] {
-        if a.finalizing[at] {
+    analyse(w, &votes::prepare(w))
+}
+
+impl Analysis {
+    // The standing of a place.
+    pub fn status_of(&self, p: Place) -> Status
+        requires { p.0 < checkpoint_limit }
+        ensures { result ≡ status_in self.now p.0 }
+    {
+        let mark = self.marks[p.0 as usize];
+        if mark.is_final() {
             return Status::Final;
         }
-        return Status::Justified;
+        if mark.justified {
+            return Status::Justified;
+        }
+        Status::Plain
     }
-    Status::Plain
 }

@@ -1,10 +1,12 @@
 -- The header: its mark, and what its rows come to once each test is known.
-use Prim.Native.Nat.{ℕ, ◌≤◌}
-use native.Mathlib.Omega.{arith}
-use mathlib.Core.Path.{◌≡◌, refl, ap, ◌∙◌}
+use Prim.Native.Nat.{ℕ}
+use mathlib.Core.Path.{◌≡◌, refl, sym, ap, ap₂, ◌∙◌}
+use borrow.Author.Tests.{eq-eqb, eqb-true}
+use Rattle.search.proofs.Below.{same_test}
+use Rattle.std.specs.Cmp.Lexicographic.{pointwise}
 use mathlib.Core.List.{List, [], ◌∷◌}
-use mathlib.Core.Bool.{Bool, true, false, ◌&&◌, not}
-use lib.ListN.{length, take, get_or}
+use mathlib.Core.Bool.{Bool, ◌&&◌, not}
+use lib.ListN.{length, take}
 use lib.Dec.{eqb, ltb}
 use Rattle.model.specs.Answer.{Answer, refused, answer, row}
 use Rattle.model.specs.Bytes.{field, part, ascii}
@@ -17,19 +19,16 @@ use Rattle.state.specs.State.{empty_witness}
 use Rattle.state.specs.declared.Witness.{Witness}
 use Rattle.std.specs.Prelude.{Ok, Err}
 
-and_three : (a b c : Bool) → (a && b && c) ≡ (a && (b && (c && true)))
-and_three true true true = refl
-and_three true true false = refl
-and_three true false c = refl
-and_three false b c = refl
+swapped : (x y : ℕ) → eqb x y ≡ eqb y x
+swapped x y = same_test (λ e. eq-eqb y x (sym (eqb-true x y e))) (λ e. eq-eqb x y (sym (eqb-true y x e)))
 
--- three bytes, one by one
-pub mark-three : (l : List ℕ) (x y z : ℕ) → 3 ≤ length l → (eqb (get_or l 0 0) x && eqb (get_or l 1 0) y && eqb (get_or l 2 0) z) ≡ same_bytes (take 3 l) (x ∷ y ∷ z ∷ [])
+-- a slice and a text, byte by byte
+pub mark-same : (xs ys : List ℕ) → pointwise eqb ys xs ≡ same_bytes xs ys
 unfolding same_bytes
-mark-three [] x y z h = absurd (omega arith)
-mark-three (a ∷ []) x y z h = absurd (omega arith)
-mark-three (a ∷ (b ∷ [])) x y z h = absurd (omega arith)
-mark-three (a ∷ (b ∷ (c ∷ l))) x y z h = and_three (eqb a x) (eqb b y) (eqb c z)
+mark-same [] [] = refl
+mark-same [] (y ∷ ys) = refl
+mark-same (x ∷ xs) [] = refl
+mark-same (x ∷ xs) (y ∷ ys) = ap₂ ◌&&◌ (swapped y x) (mark-same xs ys)
 
 pub header-rows : (log : List ℕ) {b1 b2 b3 : Bool}
     → ltb (length log) 37 ≡ b1

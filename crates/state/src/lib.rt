@@ -72,11 +72,7 @@ pub fn copy_name(names: &mut [u8; NAME_BYTES], at: usize, log: &[u8], from: usiz
         × (from + 32 ≤ length log.now) }
     ensures { names.new ≡ paste names.old at (drop from log.now) 32 }
 {
-    let mut i: usize = 0;
-    while i < 32 {
-        names[at + i] = log[from + i];
-        i += 1;
-    }
+    names[at..at + 32].copy_from_slice(&log[from..from + 32]);
 }
 
 // The witness with the root alone, whose name is the 32 bytes of the log at 5.
@@ -111,10 +107,9 @@ pub struct Beginning {
 
 // The mark `FFW`.
 fn has_mark(log: &[u8]) -> bool
-    requires { 3 ≤ length log.now }
     ensures { result ≡ same_bytes (take 3 log.now) (ascii "FFW") }
 {
-    (log[0] == 70) & (log[1] == 70) & (log[2] == 87)
+    log.starts_with(b"FFW")
 }
 
 // Rows 1 to 3; any witness may be handed in.

@@ -2,7 +2,7 @@
 -- of the links to it.
 use Prim.Native.Nat.{ℕ, ◌<◌, ◌≤◌}
 use native.Mathlib.Omega.{arith}
-use mathlib.Core.Path.{◌≡◌, sym, ap, ap₂, ◌∙◌}
+use mathlib.Core.Path.{◌≡◌, refl, sym, ap, ap₂, ◌∙◌}
 use mathlib.Core.Logic.{⊎_elim}
 use mathlib.Core.Bool.{Bool, false, ◌&&◌, and_comm}
 use borrow.Author.Tests.{eq-eqb, ne_eqb, eqb-true, eqb-false}
@@ -81,7 +81,7 @@ module _ {w : Witness} {b : Ballots} (r : Ready w b) where
 
   -- vote k is of the member at place i, for the link s → t
   abbrev backs : ℕ → ℕ → ℕ → ℕ → Bool
-  backs s t i k = aims w.targets t k && casts b.who b.from s i k
+  backs s t i k = aims w.targets t k && casts b.who w.sources s i k
 
   -- such a vote makes that member a supporter
   voted : (s t i : ℕ) → i < w.member_count
@@ -91,7 +91,7 @@ module _ {w : Witness} {b : Ballots} (r : Ready w b) where
       let vote = vote_for (get_or w.ids i 0) s t in
       any_same w.vote_count (backs s t i) (λ k. same_vote (vote_in w k) vote)
       (λ k h.
-      ap₂ (λ (x : Bool) (p : ℕ). aims w.targets t k && (x && eqb p s)) (same-member k i h l) (r.sourced k h)
+      ap₂ (λ (x : Bool) (p : ℕ). aims w.targets t k && (x && eqb p s)) (same-member k i h l) refl
       ∙ and_comm (aims w.targets t k) (eqb (id k) vote.voter && eqb (place_at w.sources k) s))
       ∙ sym (any-tabulate (λ v. same_vote v vote) w.vote_count (vote_in w))
 
@@ -102,13 +102,13 @@ module _ {w : Witness} {b : Ballots} (r : Ready w b) where
       none : Below w.vote_count (backs s t i) → ⊥
       none f =
           let k = f.at in
-          let cast = and_right (aims w.targets t k) (casts b.who b.from s i k) f.passes in
-          let voter = and_left (eqb (who k) i) (eqb (get_or b.from k 0) s) cast in
+          let cast = and_right (aims w.targets t k) (casts b.who w.sources s i k) f.passes in
+          let voter = and_left (eqb (who k) i) (eqb (place_at w.sources k) s) cast in
           omega (arith, who-held k f.inside, eqb-true (who k) i voter)
 
   -- what is gathered for a target: the supporters of the link from each source
   pub backers : (t : ℕ) (tally : ℕ → Voters) → t < 512
-      → Tallied b.who b.from b.next (get_or b.head t 0) tally
+      → Tallied b.who w.sources b.chains.next (get_or b.chains.head t 0) tally
       → (s : ℕ) → s < 512 → Backers w s t (tally s)
   backers t tally h all s l =
       record { held = λ i k. is i ∙ voted s t i k; beyond = λ i k. is i ∙ unvoted s t i k }

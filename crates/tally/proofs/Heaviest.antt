@@ -25,6 +25,8 @@ use Rattle.voters.proofs.Weights.{sum-zero, nobody_weighs}
 use Rattle.tally.specs.declared.votes.Ballots.{Ballots}
 use Rattle.tally.specs.Chains.{Tallied}
 use Rattle.tally.specs.Ready.{Ready}
+use Rattle.tally.specs.declared.links.Mark.{Mark}
+use Rattle.tally.specs.Marks.{justified_at}
 use Rattle.tally.specs.Weights.{heavier, heaviest}
 use Rattle.tally.proofs.Ready.{ready-support}
 
@@ -37,7 +39,7 @@ module _ (weight : Voters → ℕ) where
   unfolding heavier
   heavier-second h = rw (lt-ltb _ _ h)
 
-module _ (bonds : List ℕ) (members : ℕ) (marks : List Bool) (tally : ℕ → Voters) where
+module _ (bonds : List ℕ) (members : ℕ) (marks : List Mark) (tally : ℕ → Voters) where
   -- the heaviest of the first n places
   abbrev top : ℕ → Voters
   top n = heaviest (weight_of bonds members) marks tally n
@@ -46,13 +48,13 @@ module _ (bonds : List ℕ) (members : ℕ) (marks : List Bool) (tally : ℕ →
   unfolding heaviest
   heaviest-none = refl
 
-  pub heaviest-marked : (s : ℕ) {v r : Voters} → get_or marks s false ≡ true → v ≡ top s
+  pub heaviest-marked : (s : ℕ) {v r : Voters} → justified_at marks s ≡ true → v ≡ top s
       → r ≡ heavier (weight_of bonds members) v (tally s) → r ≡ top (s + 1)
   unfolding heaviest
   heaviest-marked s marked before after =
       rw (add-one s, marked) (after ∙ ap (λ (v : Voters). heavier (weight_of bonds members) v (tally s)) before)
 
-  pub heaviest-unmarked : (s : ℕ) {v : Voters} → get_or marks s false ≡ false → v ≡ top s → v ≡ top (s + 1)
+  pub heaviest-unmarked : (s : ℕ) {v : Voters} → justified_at marks s ≡ false → v ≡ top s → v ≡ top (s + 1)
   unfolding heaviest
   heaviest-unmarked s unmarked before =
       rw (add-one s, unmarked)
@@ -60,8 +62,8 @@ module _ (bonds : List ℕ) (members : ℕ) (marks : List Bool) (tally : ℕ →
       (omega (arith, nobody_weighs bonds members nobody refl refl))))
 
 module _ {w : Witness} {b : Ballots} (r : Ready w b) (t : ℕ) (tally : ℕ → Voters) (h : t < 512)
-    (all : Tallied b.who b.from b.next (get_or b.head t 0) tally)
-    (marks : List Bool) (marked : (s : ℕ) → s < t → get_or marks s false ≡ justified? (model_of w) s) where
+    (all : Tallied b.who w.sources b.chains.next (get_or b.chains.head t 0) tally)
+    (marks : List Mark) (marked : (s : ℕ) → s < t → justified_at marks s ≡ justified? (model_of w) s) where
   abbrev weight : Voters → ℕ
   weight v = weight_of w.bonds w.member_count v
 
@@ -91,7 +93,7 @@ module _ {w : Witness} {b : Ballots} (r : Ready w b) (t : ℕ) (tally : ℕ → 
   unfolding heaviest best_below
   agrees_below zero l = agrees_nobody
   agrees_below (suc s) l =
-      agrees_heavier _ _ _ _ (agrees_below s (omega arith)) (one (get_or marks s false) (marked s (omega arith)))
+      agrees_heavier _ _ _ _ (agrees_below s (omega arith)) (one (justified_at marks s) (marked s (omega arith)))
     where
       one : (j : Bool) → j ≡ justified? (model_of w) s
           → Agrees (cond j (tally s) nobody) (cond (justified? (model_of w) s) (support (model_of w) s t) unsupported)

@@ -3,3 +3,4 @@ pub mod Totals
 pub mod Backed
 pub mod Ready
 pub mod Heaviest
+pub mod Below

@@ -29,21 +29,21 @@ module _ {w : Witness} {b : Ballots} (r : Ready w b) where
   ready-bar = bar-fits w r.sound r.bar
 
   -- the chain of a target can be walked
-  pub ready-walk : (t : ℕ) → t < 512 → Walkable b.who b.from b.next (get_or b.head t 0)
+  pub ready-walk : (t : ℕ) → t < 512 → Walkable b.who w.sources b.chains.next (get_or b.chains.head t 0)
   ready-walk t h =
       record {
         fit = omega (arith, few-votes w r.sound, low);
         who-long = omega (arith, few-votes w r.sound, low);
         next-long = omega (arith, few-votes w r.sound, low, r.chained.linked.long);
         member = λ k l. omega (arith, who-held r k (omega (arith, low)), few-members w r.sound);
-        from-long = omega (arith, few-votes w r.sound, low, r.from-long);
+        sources-long = omega (arith, few-votes w r.sound, low, r.sound.typed.votes.sources);
         source = λ k l.
             let held : k < w.vote_count = omega (arith, low) in
-            omega (arith, r.sourced k held, source-held w r.sound k held, few-checkpoints w r.sound);
+            omega (arith, source-held w r.sound k held, few-checkpoints w r.sound);
         earlier = λ k l. linked-earlier (λ i. place_at w.targets i) r.chained.linked k (omega (arith, low));
       }
     where
-      low : get_or b.head t 0 ≤ w.vote_count
+      low : get_or b.chains.head t 0 ≤ w.vote_count
       low = omega (arith, r.chained.heads t h, last_le (aims w.targets t) w.vote_count)
 
   -- a parent's place is held
@@ -52,7 +52,7 @@ module _ {w : Witness} {b : Ballots} (r : Ready w b) where
 
   -- what is gathered for t
   module _ (t : ℕ) (tally : ℕ → Voters) (h : t < 512)
-      (all : Tallied b.who b.from b.next (get_or b.head t 0) tally) (s : ℕ) (l : s < 512) where
+      (all : Tallied b.who w.sources b.chains.next (get_or b.chains.head t 0) tally) (s : ℕ) (l : s < 512) where
     backed : Backers w s t (tally s)
     backed = backers r t tally h all s l
 

@@ -1,65 +1,66 @@
 // The links to one target.
-ghost use Rattle.std.specs.Prelude.{◌≡◌, false, ◌&&◌, ◌≤◌, length, get_or};
+ghost use Rattle.std.specs.Prelude.{◌≡◌, ◌&&◌, ◌≤◌, length};
 ghost use Rattle.model.specs.Lists.{any_below};
 ghost use Rattle.voters.specs.Weights.{Bonds, Fits, weight_of, carried};
 ghost use Rattle.tally.specs.Chains.{voters_at};
+ghost use Rattle.tally.specs.Marks.{justified_at};
 ghost use Rattle.tally.specs.Weights.{IsWeighed, IsHeaviest, heavier};
 
-use model::Place;
-use voters::{Bar, Voters, carries, weigh};
+use voters::{Bar, Voters};
 
-// Whether a link with a quorum leads to t from a justified place below it. The voters of the link from place s are
-// `lo[s]` and `hi[s]`.
-pub fn reaches<'a>(
-    lo: &'a [u64],
-    hi: &'a [u64],
-    justified: &'a [bool],
-    t: Place,
-    bonds: &'a [u64],
-    members: usize,
-    bar: Bar,
-) -> bool
-    requires { (t.0 ≤ length lo.now)
-        × (t.0 ≤ length hi.now)
-        × (t.0 ≤ length justified.now)
-        × Bonds bonds.now members
-        × Fits bar }
-    ensures { let v = voters_at lo.now hi.now in
-        result
-        ≡ any_below t.0
-        (λ s. get_or justified.now s false && carried bonds.now members bar (v s)) }
+// What is known of a place: whether it is justified, and whether that would make it final: it is the root, or a link
+// with a quorum leads from it to a direct child.
+#[derive(Clone, Copy, Debug, PartialEq, Eq)]
+pub struct Mark {
+    pub justified: bool,
+    pub finalizing: bool,
+}
+
+impl Mark {
+    // Of a place of which nothing is known yet.
+    pub const NONE: Mark = Mark {
+        justified: false,
+        finalizing: false,
+    };
+
+    // Whether the place is final.
+    pub fn is_final(self) -> bool
+        ensures { result ≡ (self.justified && self.finalizing) }
+    {
+        self.justified & self.finalizing
+    }
+}
+
+// Whether a link with a quorum leads on from a justified place: `voters` has those of the link from each place below
+// the target.
+pub fn reaches<'a>(voters: &'a [Voters], marks: &'a [Mark], bonds: &'a [u64], bar: Bar) -> bool
+    requires { (length voters.now ≤ length marks.now) × Bonds bonds.now (length bonds.now) × Fits bar }
+    ensures { result
+        ≡ any_below (length voters.now)
+        (λ s. justified_at marks.now s && carried bonds.now (length bonds.now) bar (voters_at voters.now s)) }
 {
-    let end = t.0 as usize;
-    let mut s: usize = 0;
-    while s < end {
-        if justified[s] {
-            let v = Voters {
-                lo: lo[s],
-                hi: hi[s],
-            };
-            if carries(v, bonds, members, bar) {
-                return true;
-            }
+    for (s, v) in voters.iter().enumerate() {
+        if marks[s].justified && v.carries(bonds, bar) {
+            return true;
         }
-        s += 1;
     }
     false
 }
 
 // Voters, and what their bonds come to.
-#[derive(Clone, Copy)]
+#[derive(Clone, Copy, Debug, PartialEq, Eq)]
 pub struct Weighed {
     pub voters: Voters,
     pub bonds: u64,
 }
 
 // The heavier of two sets of voters, the first where they weigh the same.
-fn heavier(one: Weighed, other: Voters, bonds: &[u64], members: usize) -> Weighed
-    requires { Bonds bonds.now members × IsWeighed bonds.now members one }
-    ensures { IsWeighed bonds.now members result
-        × (result.voters ≡ heavier (weight_of bonds.now members) one.voters other) }
+fn heavier(one: Weighed, other: Voters, bonds: &[u64]) -> Weighed
+    requires { Bonds bonds.now (length bonds.now) × IsWeighed bonds.now (length bonds.now) one }
+    ensures { IsWeighed bonds.now (length bonds.now) result
+        × (result.voters ≡ heavier (weight_of bonds.now (length bonds.now)) one.voters other) }
 {
-    let weight = weigh(other, bonds, members);
+    let weight = other.weigh(bonds);
     if one.bonds < weight {
         return Weighed {
             voters: other,
@@ -69,38 +70,19 @@ fn heavier(one: Weighed, other: Voters, bonds: &[u64], members: usize) -> Weighe
     one
 }
 
-// The voters with the most bond of a link to t, of those from justified places below it; the lowest place among equals.
-pub fn heaviest<'a>(
-    lo: &'a [u64],
-    hi: &'a [u64],
-    justified: &'a [bool],
-    t: Place,
-    bonds: &'a [u64],
-    members: usize,
-) -> Weighed
-    requires { (t.0 ≤ length lo.now)
-        × (t.0 ≤ length hi.now)
-        × (t.0 ≤ length justified.now)
-        × Bonds bonds.now members }
-    ensures { IsHeaviest bonds.now members justified.now (voters_at lo.now hi.now)
-        t.0 result }
+// The voters with the most bond, of the links from justified places; those of the lowest place among equals.
+pub fn heaviest<'a>(voters: &'a [Voters], marks: &'a [Mark], bonds: &'a [u64]) -> Weighed
+    requires { (length voters.now ≤ length marks.now) × Bonds bonds.now (length bonds.now) }
+    ensures { IsHeaviest bonds.now (length bonds.now) marks.now (voters_at voters.now) (length voters.now) result }
 {
-    let end = t.0 as usize;
-    let nobody = Voters { lo: 0, hi: 0 };
     let mut best = Weighed {
-        voters: nobody,
+        voters: Voters::NOBODY,
         bonds: 0,
     };
-    let mut s: usize = 0;
-    while s < end {
-        if justified[s] {
-            let v = Voters {
-                lo: lo[s],
-                hi: hi[s],
-            };
-            best = heavier(best, v, bonds, members);
+    for (s, v) in voters.iter().enumerate() {
+        if marks[s].justified {
+            best = heavier(best, *v, bonds);
         }
-        s += 1;
     }
     best
 }

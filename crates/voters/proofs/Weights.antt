@@ -5,13 +5,16 @@ use mathlib.Core.Path.{◌≡◌, refl, sym, ap, ◌∙◌}
 use mathlib.Core.List.{List}
 use mathlib.Core.Bool.{Bool, false, cond}
 use mathlib.Core.Logic.{⊎_elim}
-use lib.ListN.{get_or}
+use lib.ListN.{length, get_or, take}
+use lib.Seq.{length-take-le}
 use Rattle.model.specs.Limits.{bond_limit}
 use Rattle.model.proofs.Lists.{lt_or_ge}
 use Rattle.voters.specs.declared.Voters.{Voters}
 use Rattle.voters.specs.Bits.{nobody, among, sum_below}
-use Rattle.voters.specs.Weights.{Bonds, weight_of}
-use Rattle.voters.proofs.Bits.{among_none, sum_bound}
+use Rattle.voters.specs.declared.Bar.{Bar}
+use Rattle.voters.specs.Weights.{Bonds, weight_of, enough, carried}
+use Rattle.voters.proofs.Bits.{among_none, sum_bound, sum_same}
+use Rattle.std.proofs.lemmas.List.{get_or-take}
 
 pub sum-zero : (n : ℕ) (p : ℕ → Bool) (f : ℕ → ℕ) → ((i : ℕ) → i < n → p i ≡ false) → sum_below n p f ≡ 0
 unfolding sum_below
@@ -27,6 +30,29 @@ module _ (bonds : List ℕ) (members : ℕ) where
   pub weight-bound : (v : Voters) {weight : ℕ}
       → Bonds bonds members → weight ≡ weight_of bonds members v → weight ≤ 128 * bond_limit
   weight-bound v h e = omega (arith, sum_bound members bond_limit (among v) (λ i. get_or bonds i 0) h.each, h.fit)
+
+-- the first n bonds of an array, as a list of their own: they are sound, and sums over them are the array's
+module _ (bonds : List ℕ) (n : ℕ) (h : Bonds bonds n) where
+  first_long : length (take n bonds) ≡ n
+  first_long = length-take-le n bonds h.long
+
+  pub first_good : Bonds (take n bonds) (length (take n bonds))
+  first_good = rw first_long (record {
+    fit = h.fit;
+    long = omega (arith, first_long);
+    each = λ i l. rw (get_or-take n bonds i 0 l) (h.each i l);
+  })
+
+  pub sum_first_bonds : (p : ℕ → Bool)
+      → sum_below (length (take n bonds)) p (λ i. get_or (take n bonds) i 0) ≡ sum_below n p (λ i. get_or bonds i 0)
+  sum_first_bonds p = rw first_long (sum_same n p p _ _ (λ i l. refl) (λ i l. get_or-take n bonds i 0 l))
+
+  pub weight-first : (v : Voters) → weight_of (take n bonds) (length (take n bonds)) v ≡ weight_of bonds n v
+  weight-first v = sum_first_bonds (among v)
+
+  pub carried-first : (bar : Bar) (v : Voters)
+      → carried (take n bonds) (length (take n bonds)) bar v ≡ carried bonds n bar v
+  carried-first bar v = ap (λ (x : ℕ). enough x bar) (weight-first v)
 
 -- numbers from n on that fail the test add nothing
 pub sum_more : (k n : ℕ) (p : ℕ → Bool) (f : ℕ → ℕ) → n ≤ k → ((i : ℕ) → n ≤ i → p i ≡ false) → sum_below k p f ≡ sum_below n p f

@@ -1,32 +1,22 @@
-use Prim.Native.Nat.{ℕ}
 use native.Mathlib.Omega.{arith}
-use mathlib.Core.Path.{refl, ap, ◌∙◌}
+use Prim.Native.Nat.{◌≤◌}
+use mathlib.Core.Bool.{false}
+use mathlib.Core.Path.{◌≡◌, sym}
+use borrow.Author.Count.{below_more}
 use lib.Dec.{leb}
-use Rattle.model.specs.Bits.{set_places}
+use borrow.Author.Tests.{le-leb}
+use Rattle.model.specs.Bits.{bit_set, set_places}
 use Rattle.model.specs.Bytes.{part}
-use Rattle.model.specs.Lists.{any, concat_below}
-use Rattle.bits.proofs.SetPlaces.{set_below, any-more}
+use Rattle.bits.proofs.SetPlaces.{among, none_from}
 use Rattle.bits.proofs.any_from.Goals as goal
 
-pub loop-p-init : goal.loop-p-init
-unfolding concat_below any
-loop-p-init c = (omega arith, refl)
-
-pub is_set-requires : goal.is_set-requires
-is_set-requires c = (c.loop-p-test.true, c.requires)
-
-pub overflow_add-p : goal.overflow_add-p
-overflow_add-p c = omega (arith, c.loop-p-test.true)
-
-pub loop-p-smaller : goal.loop-p-smaller
-loop-p-smaller c = omega (arith, c.loop-p-test.true)
+pub returns-then-is_set : goal.returns-then-is_set
+unfolding set_places
+returns-then-is_set c = sym (among (part c.args.at 16 c.args.s.now) (leb c.args.from) 128 c.loop-p.p (omega arith) (sym c.if-is_set.ensures) (le-leb _ _ c.loop-p.auto.p))
 
 pub loop-p-preserved : goal.loop-p-preserved
-loop-p-preserved c =
-    let l = c.loop-p in
-    let a = c.args in
-    (omega (arith, c.loop-p-test.true), any-more (part a.at 16 a.s.now) l.p (leb a.from) l.invariant.1 c.is_set.ensures)
+loop-p-preserved c = λ k l h. below_more (λ j. c.args.from ≤ j → bit_set (part c.args.at 16 c.args.s.now) j ≡ false) c.loop-p.p (λ j h m. c.loop-p.invariant j m h) (λ m. sym c.if-is_set.ensures) k h l
 
 pub returns : goal.returns
 unfolding set_places
-returns c = c.loop-p.invariant.1 ∙ ap (λ (n : ℕ). any (leb c.args.from) (set_below (part c.args.at 16 c.args.s.now) n)) (omega (arith, c.loop-p-test.false, c.loop-p.invariant.0))
+returns c = sym (none_from (part c.args.at 16 c.args.s.now) c.args.from 128 (λ k l h. c.loop-p.invariant k l (omega arith)))

@@ -10,11 +10,7 @@ use Rattle.checker.proofs.check_entries.Given as goal
 
 abbrev pub invariant-loop-i : goal.invariant-loop-i
 invariant-loop-i l =
-    (l.i ≤ l.count)
-    × (l.floor ≤ 65536)
+    (l.floor ≤ 65536)
     × (l.sum ≤ bond_limit * l.floor)
     × (check_from (model_of l.w) l.floor l.sum (entries (l.count - l.i) (drop (7 + 6 * l.i) l.list))
     ≡ check_from (model_of l.w) 0 0 (entries l.count (drop 7 l.list)))
-
-abbrev pub decreases-loop-i : goal.decreases-loop-i
-decreases-loop-i l = l.count - l.i

@@ -3,8 +3,7 @@ use mathlib.Core.Path.{refl, sym, ap₂, ◌∙◌}
 use mathlib.Core.Bool.{◌&&◌}
 use borrow.Author.Tests.{lt-ltb, le-ltb}
 use Rattle.model.specs.Answer.{row}
-use Rattle.state.proofs.Held.{held-id}
-use Rattle.entry.proofs.Rows.{entry-rows, pair_found}
+use Rattle.entry.proofs.Rows.{entry-rows, pair_found, id-lost, id-found, id-index}
 use Rattle.entry.proofs.find_pair.Goals as goal
 
 pub returns-then-id-floor : goal.returns-then-id-floor
@@ -15,13 +14,13 @@ returns-then-id-floor c =
     entry-rows m a.floor a.at a.list.now c.be16-id.ensures refl refl
     (lt-ltb _ _ c.if-id-floor.true) refl refl refl
 
-pub returns-then-members-member : goal.returns-then-members-member
+pub returns-in_default : goal.returns-in_default
 unfolding row
-returns-then-members-member c =
+returns-in_default c =
     λ m ids voters.
     let a = c.args in
     entry-rows m a.floor a.at a.list.now c.be16-id.ensures refl refl
-    (le-ltb _ _ c.if-id-floor.false) (held-id _ ids c.find_id-member.ensures ∙ le-ltb _ _ c.if-members-member.true) refl refl
+    (le-ltb _ _ c.if-id-floor.false) (id-lost ids _ c.in_default.ensures) refl refl
 
 pub returns-then-not-own : goal.returns-then-not-own
 unfolding row
@@ -31,7 +30,7 @@ returns-then-not-own c =
     let a = c.args in
     entry-rows m a.floor a.at a.list.now c.be16-id.ensures c.be16-earlier.ensures c.be16-later.ensures
     (le-ltb _ _ c.if-id-floor.false)
-    (held-id _ ids c.find_id-member.ensures ∙ lt-ltb _ _ c.if-members-member.false)
+    (id-found ids _ c.in-Some.ensures)
     (sym (ap₂ ◌&&◌ (c.own_vote.ensures m voters) (c.own_vote-2.ensures m voters))
     ∙ c.if-not-own.true)
     refl
@@ -44,7 +43,7 @@ returns-then-later-earlier c =
     let a = c.args in
     entry-rows m a.floor a.at a.list.now c.be16-id.ensures c.be16-earlier.ensures c.be16-later.ensures
     (le-ltb _ _ c.if-id-floor.false)
-    (held-id _ ids c.find_id-member.ensures ∙ lt-ltb _ _ c.if-members-member.false)
+    (id-found ids _ c.in-Some.ensures)
     (sym (ap₂ ◌&&◌ (c.own_vote.ensures m voters) (c.own_vote-2.ensures m voters))
     ∙ c.if-not-own.false)
     (le-ltb _ _ c.if-later-earlier.true)
@@ -55,9 +54,9 @@ returns c =
     let o = c.before.before in
     let a = c.args in
     pair_found m a.floor a.at a.list.now c.be16-id.ensures c.be16-earlier.ensures c.be16-later.ensures
-    (c.find_id-member.ensures ∙ sym (ids.index _))
+    (id-index ids _ c.in-Some.ensures)
     (le-ltb _ _ c.if-id-floor.false)
-    (held-id _ ids c.find_id-member.ensures ∙ lt-ltb _ _ c.if-members-member.false)
+    (id-found ids _ c.in-Some.ensures)
     (sym (ap₂ ◌&&◌ (c.own_vote.ensures m voters) (c.own_vote-2.ensures m voters))
     ∙ c.if-not-own.false)
     (lt-ltb _ _ c.if-later-earlier.false)

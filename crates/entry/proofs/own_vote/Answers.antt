@@ -1,10 +1,9 @@
 -- `entry::own_vote` meets its contract: a vote past those held is nobody's. Assumes nothing.
-use mathlib.Core.Path.{sym}
-use Rattle.entry.proofs.Rows.{own-past, own-here}
+use native.Mathlib.Omega.{arith}
+use mathlib.Core.Path.{◌∙◌}
+use Rattle.entry.proofs.Rows.{own-read}
 use Rattle.entry.proofs.own_vote.Goals as goal
 
-pub returns-then-votes-number : goal.returns-then-votes-number
-returns-then-votes-number c = λ m held. sym (own-past held _ _ c.if-votes-number.true)
-
 pub returns : goal.returns
-returns c = λ m held. sym (own-here held _ _ c.if-votes-number.false)
+returns c =
+    λ m held. c.eq.ensures ∙ own-read held c.args.number _ c.get.result c.get.ensures.lookup.0 (c.get.ensures.lookup.4 (omega arith) 0)

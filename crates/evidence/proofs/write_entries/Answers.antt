@@ -1,7 +1,7 @@
-use Prim.Native.Nat.{◌+◌, ◌*◌, ◌-◌}
+use Prim.Native.Nat.{◌+◌, ◌*◌}
 use native.Mathlib.Omega.{arith}
 use native.Mathlib.Nat.{le_antisymm}
-use mathlib.Core.Path.{refl, ◌∙◌}
+use mathlib.Core.Path.{refl}
 use Rattle.model.specs.Evidence.{entry_bytes}
 use Rattle.evidence.specs.Listed.{charge_in, charges_of}
 use Rattle.evidence.proofs.Bytes.{entered_none, entered_more, lent_tail}

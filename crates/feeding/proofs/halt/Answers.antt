@@ -1,40 +1,19 @@
 -- `feeding::halt` meets its contract. Assumes nothing.
 use native.Mathlib.Omega.{arith}
-use mathlib.Core.Path.{sym, ap, ◌∙◌}
-use Rattle.state.specs.Reading.{outcome_of}
+use mathlib.Core.Path.{sym, ◌∙◌}
+use Rattle.std.specs.Prelude.{Ok}
 use Rattle.text.proofs.Putting.{none}
 use Rattle.feeding.specs.declared.Pause.TheVariants.{Wants, Ended}
-use Rattle.feeding.proofs.Told.{halted-ends, halted-waits, halted-none, paused-fed}
+use Rattle.feeding.proofs.Told.{halted-test, paused-fed}
 use Rattle.feeding.proofs.halt.Goals as goal
 
-pub returns-then-refusal_number-eq4 : goal.returns-then-refusal_number-eq4
-returns-then-refusal_number-eq4 c =
+pub returns-then-eq : goal.returns-then-eq
+returns-then-eq c =
     let a = c.args in
-    paused-fed a.w a.k a.next a.at _ a.buf.now _ Ended
-    (halted-ends a.w a.k _ (ap outcome_of c.in-Refused.is) (sym c.refusal_number.ensures ∙ c.if-refusal_number-eq4.true))
-    c.stopped_line-written.ensures.0
+    paused-fed a.w a.k a.next a.at _ a.buf.now _ (Ok Ended) (halted-test a.w a.k a.o _ (sym c.if-eq.true ∙ c.eq.ensures)) c.stopped_line.ensures.0
 
-pub returns-else-refusal_number-eq4 : goal.returns-else-refusal_number-eq4
-returns-else-refusal_number-eq4 c =
+pub returns-else-eq : goal.returns-else-eq
+returns-else-eq c =
     let a = c.args in
-    paused-fed a.w a.k a.next a.at _ a.buf.now _ Wants
-    (halted-waits a.w a.k _ (ap outcome_of c.in-Refused.is) (λ four. c.if-refusal_number-eq4.false (c.refusal_number.ensures ∙ four)))
-    (none a.buf.now a.at (omega (arith, c.requires)))
-
-pub returns-in-Nothing : goal.returns-in-Nothing
-returns-in-Nothing c =
-    let a = c.args in
-    paused-fed a.w a.k a.next a.at _ a.buf.now _ Wants (halted-none a.w a.k (ap outcome_of c.in-Nothing.is))
-    (none a.buf.now a.at (omega (arith, c.requires)))
-
-pub returns-in-Taken : goal.returns-in-Taken
-returns-in-Taken c =
-    let a = c.args in
-    paused-fed a.w a.k a.next a.at _ a.buf.now _ Wants (halted-none a.w a.k (ap outcome_of c.in-Taken.is))
-    (none a.buf.now a.at (omega (arith, c.requires)))
-
-pub returns-in-Bundled : goal.returns-in-Bundled
-returns-in-Bundled c =
-    let a = c.args in
-    paused-fed a.w a.k a.next a.at _ a.buf.now _ Wants (halted-none a.w a.k (ap outcome_of c.in-Bundled.is))
+    paused-fed a.w a.k a.next a.at _ a.buf.now _ (Ok Wants) (halted-test a.w a.k a.o _ (sym c.if-eq.false ∙ c.eq.ensures))
     (none a.buf.now a.at (omega (arith, c.requires)))

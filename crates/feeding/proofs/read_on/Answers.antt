@@ -1,34 +1,19 @@
-use Prim.Native.Nat.{ℕ, ◌+◌, ◌-◌, ◌≤◌}
+use Prim.Native.Nat.{ℕ, ◌+◌, ◌≤◌}
 use native.Mathlib.Omega.{arith}
 use mathlib.Core.Path.{◌≡◌, refl, sym, ap, ◌∙◌}
+use mathlib.Core.Logic.{inl, inr}
 use mathlib.Core.List.{List, ◌++◌}
 use lib.ListN.{length, take, drop, length-append, take-append-drop}
 use lib.Seq.{length-take-le}
-use Rattle.text.proofs.Putting.{kept}
-use Rattle.feeding.proofs.Onward.{none_yet, end-inside, room_and_number, spent-here, May, few-records, few-entries}
+use Rattle.feeding.proofs.Onward.{none_yet, end-inside, spent-here, May, few-records, few-entries}
 use Rattle.feeding.proofs.Onward.{rows_long, numbers, batch_here, some-passed, room-left, halted-last}
 use Rattle.feeding.proofs.read_on.Goals as goal
-use Rattle.feeding.proofs.read_on.Goals.{After-read_from-r, After-batch-most}
+use Rattle.feeding.proofs.read_on.Goals.{After-read_from-r, After-batch-most, then-loop-buf-test+else-k-lt-LAST_NUMBER, else-loop-buf-test}
 
 pub loop-buf-init : goal.loop-buf-init
 loop-buf-init c =
     let a = c.args in
     (refl, none_yet a.w a.records a.log.now a.at a.buf.now c.requires (omega arith))
-
-pub overflow_sub-buf : goal.overflow_sub-buf
-overflow_sub-buf c = end-inside c.loop-buf.invariant.1
-
-pub overflow_sub-buf-in-loop-buf : goal.overflow_sub-buf-in-loop-buf
-overflow_sub-buf-in-loop-buf c = end-inside c.loop-buf.invariant.1
-
-pub batch-most-requires : goal.batch-most-requires
-batch-most-requires c = (room_and_number (length c.loop-buf.buf - c.loop-buf.end) c.loop-buf.k c.loop-buf-test.true).0
-
-pub overflow_sub-k : goal.overflow_sub-k
-overflow_sub-k c = omega (arith, c.loop-buf.invariant.1.numbered)
-
-pub slice_bounds-rows-end : goal.slice_bounds-rows-end
-slice_bounds-rows-end c = omega (arith, c.batch-most.ensures.1, c.loop-buf.invariant.0)
 
 -- the rows lent
 abbrev lent : After-batch-most → List ℕ
@@ -46,14 +31,8 @@ may c =
     record {
       bytes = λ i h. (c.type_inv.log i).fits;
       room = omega (arith, lent-long (goal.at.After-batch-most c).After-batch-most, c.batch-most.ensures.2);
-      number = (room_and_number (length l.buf - l.end) l.k c.loop-buf-test.true).1;
+      number = c.if-k-lt-LAST_NUMBER.true;
     }
-
-pub slice_bounds-read_from-end : goal.slice_bounds-read_from-end
-slice_bounds-read_from-end c = sym (lent-long (goal.at.slice_bounds-read_from-end c).After-batch-most)
-
-pub read_from-r-requires : goal.read_from-r-requires
-read_from-r-requires c = c.loop-buf.invariant.1.sound
 
 few : (c : After-read_from-r) → c.read_from-r.result.used ≤ c.batch-most.result
 few c = omega (arith, few-entries c.loop-buf.invariant.1 (may (goal.at.After-read_from-r c).After-batch-most) c.read_from-r.ensures, lent-long (goal.at.After-read_from-r c).After-batch-most)
@@ -75,12 +54,6 @@ taken-long : (c : After-read_from-r)
     → length (take c.read_from-r.result.used (c.read_from-r.new.rows ++ others (goal.at.After-read_from-r c).After-batch-most)) ≡ c.read_from-r.result.used
 taken-long c = length-take-le c.read_from-r.result.used (c.read_from-r.new.rows ++ others (goal.at.After-read_from-r c).After-batch-most) (rows-inside c)
 
-pub slice_bounds-rows-end-in-loop-buf : goal.slice_bounds-rows-end-in-loop-buf
-slice_bounds-rows-end-in-loop-buf c = rows-inside (goal.at.slice_bounds-rows-end-in-loop-buf c).After-read_from-r
-
-pub slice_bounds-refused_lines-end : goal.slice_bounds-refused_lines-end
-slice_bounds-refused_lines-end c = sym (taken-long (goal.at.slice_bounds-refused_lines-end c).After-read_from-r)
-
 pub refused_lines-end-requires : goal.refused_lines-end-requires
 refused_lines-end-requires c =
     let l = c.loop-buf in
@@ -99,16 +72,13 @@ pub halt-requires : goal.halt-requires
 halt-requires c =
     let r = (goal.at.halt-requires c).After-read_from-r in
     let so = c.loop-buf.invariant.1 in
-    let room = room-left so (may (goal.at.halt-requires c).After-batch-most) c.read_from-r.ensures (others (goal.at.halt-requires c).After-batch-most) c.refused_lines-end.ensures.0 _ c.in-EndedBy.is in
+    let room = room-left so (may (goal.at.halt-requires c).After-batch-most) c.read_from-r.ensures (others (goal.at.halt-requires c).After-batch-most) c.refused_lines-end.ensures.0 _ c.in-Some.is in
     omega (arith, room, end-inside (batch_here so (may (goal.at.halt-requires c).After-batch-most) c.read_from-r.ensures (others (goal.at.halt-requires c).After-batch-most) c.refused_lines-end.ensures.0))
 
-pub returns-in-EndedBy : goal.returns-in-EndedBy
-returns-in-EndedBy c =
-    let r = (goal.at.returns-in-EndedBy c).After-read_from-r in
-    halted-last c.loop-buf.invariant.1 (may (goal.at.returns-in-EndedBy c).After-batch-most) c.read_from-r.ensures (others (goal.at.returns-in-EndedBy c).After-batch-most) c.refused_lines-end.ensures.0 _ c.in-EndedBy.is c.halt.ensures
-
-pub shape_of-buf-in-EndedBy : goal.shape_of-buf-in-EndedBy
-shape_of-buf-in-EndedBy c = kept (returns-in-EndedBy c).text
+pub returns-in-Some : goal.returns-in-Some
+returns-in-Some c =
+    let r = (goal.at.returns-in-Some c).After-read_from-r in
+    halted-last c.loop-buf.invariant.1 (may (goal.at.returns-in-Some c).After-batch-most) c.read_from-r.ensures (others (goal.at.returns-in-Some c).After-batch-most) c.refused_lines-end.ensures.0 _ c.in-Some.is c.halt.ensures
 
 pub loop-buf-smaller : goal.loop-buf-smaller
 loop-buf-smaller c =
@@ -119,7 +89,7 @@ loop-buf-smaller c =
       lent-long (goal.at.loop-buf-smaller c).After-batch-most,
       c.batch-most.ensures.0,
       few-records so (may (goal.at.loop-buf-smaller c).After-batch-most) c.read_from-r.ensures,
-      some-passed so (may (goal.at.loop-buf-smaller c).After-batch-most) c.read_from-r.ensures (others (goal.at.loop-buf-smaller c).After-batch-most) c.refused_lines-end.ensures.0 (omega (arith, lent-long (goal.at.loop-buf-smaller c).After-batch-most, c.batch-most.ensures.0)) c.in-Spent.is,
+      some-passed so (may (goal.at.loop-buf-smaller c).After-batch-most) c.read_from-r.ensures (others (goal.at.loop-buf-smaller c).After-batch-most) c.refused_lines-end.ensures.0 (omega (arith, lent-long (goal.at.loop-buf-smaller c).After-batch-most, c.batch-most.ensures.0)) c.in_default.is,
     )
 
 pub loop-buf-preserved : goal.loop-buf-preserved
@@ -128,11 +98,10 @@ loop-buf-preserved c =
     let so = c.loop-buf.invariant.1 in
     (rows_long so (may (goal.at.loop-buf-preserved c).After-batch-most) c.read_from-r.ensures (others (goal.at.loop-buf-preserved c).After-batch-most) refl ∙ others-long (goal.at.loop-buf-preserved c).After-batch-most, batch_here so (may (goal.at.loop-buf-preserved c).After-batch-most) c.read_from-r.ensures (others (goal.at.loop-buf-preserved c).After-batch-most) c.refused_lines-end.ensures.0)
 
-pub overflow_sub-buf-2 : goal.overflow_sub-buf-2
-overflow_sub-buf-2 c = end-inside c.loop-buf.invariant.1
-
-pub shape_of-buf : goal.shape_of-buf
-shape_of-buf c = kept c.loop-buf.invariant.1.put
-
 pub returns : goal.returns
-returns c = spent-here c.loop-buf.invariant.1 c.why_spent.result c.why_spent.ensures c.loop-buf-test.false
+returns c =
+    spent-here c.loop-buf.invariant.1 c.why_spent.result c.why_spent.ensures
+    (elim c.loop-buf-test.branch [
+      | then-loop-buf-test+else-k-lt-LAST_NUMBER w ↦ inr w.if-k-lt-LAST_NUMBER.false
+      | else-loop-buf-test w ↦ inl w.loop-buf-test.false
+    ])

@@ -3,5 +3,5 @@ use borrow.Author.Rules.{rules}
 use Rattle.voters.proofs.Weights.{weight-bound}
 use Rattle.finality.proofs.backed_by.Goals as goal
 
-pub is_quorum-requires : goal.is_quorum-requires
-is_quorum-requires c = search (rules, weight-bound)
+pub is_met_by-requires : goal.is_met_by-requires
+is_met_by-requires c = search (rules, weight-bound)

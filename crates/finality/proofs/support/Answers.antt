@@ -1,9 +1,9 @@
 -- `finality::support` meets its contract: the voters gathered for the link are its supporters. Assumes nothing.
 use Prim.Native.Nat.{◌<◌}
 use native.Mathlib.Omega.{arith}
-use mathlib.Core.Path.{refl}
-use borrow.Author.Rules.{rules}
-use Rattle.state.proofs.Sound.{few-checkpoints}
+use mathlib.Core.Path.{◌∙◌}
+use Rattle.state.proofs.Sound.{few-members, few-checkpoints}
+use Rattle.voters.proofs.Weights.{first_good, weight-first}
 use Rattle.tally.proofs.Ready.{ready-bonds, ready-bar, ready-walk, ready-support}
 use Rattle.finality.proofs.support.Goals as goal
 use Rattle.finality.proofs.support.Goals.{After-prepare-b}
@@ -12,26 +12,27 @@ use Rattle.finality.proofs.support.Goals.{After-prepare-b}
 low : (c : After-prepare-b) → (c.args.s.0 < 512) × (c.args.t.0 < 512)
 low c = let few = few-checkpoints _ c.requires.0 in (omega arith, omega arith)
 
-pub bounds-head-target : goal.bounds-head-target
-bounds-head-target c = omega (arith, low (goal.at.bounds-head-target c).After-prepare-b)
+pub shared_ref_as_front-bonds : goal.shared_ref_as_front-bonds
+shared_ref_as_front-bonds c = few-members _ c.requires.0
 
-pub gather-requires : goal.gather-requires
-gather-requires c =
-    (ready-walk c.prepare-b.ensures _ (low (goal.at.gather-requires c).After-prepare-b).1, refl, refl)
+pub gather-requires-clause-target : goal.gather-requires-clause-target
+gather-requires-clause-target c = (low (goal.at.gather-requires-clause-target c).After-prepare-b).1
 
-pub bounds-lo-source : goal.bounds-lo-source
-bounds-lo-source c =
-    omega (arith, low (goal.at.bounds-lo-source c).After-prepare-b)
+pub gather-requires-clause-walk : goal.gather-requires-clause-walk
+gather-requires-clause-walk c =
+    ready-walk c.prepare-b.ensures _ (low (goal.at.gather-requires-clause-walk c).After-prepare-b).1
 
-pub bounds-hi-source : goal.bounds-hi-source
-bounds-hi-source c =
-    omega (arith, low (goal.at.bounds-hi-source c).After-prepare-b)
+pub bounds-voters-s : goal.bounds-voters-s
+bounds-voters-s c = (low (goal.at.bounds-voters-s c).After-prepare-b).0
 
 pub backed_by-requires : goal.backed_by-requires
-backed_by-requires c = search (rules, ready-bonds, ready-bar)
+backed_by-requires c = (first_good _ _ (ready-bonds c.prepare-b.ensures), ready-bar c.prepare-b.ensures)
 
 pub returns : goal.returns
 returns c =
+    let r = c.prepare-b.ensures in
     let is = c.backed_by.ensures in
-    ready-support c.prepare-b.ensures _ _ (low (goal.at.returns c).After-prepare-b).1 c.gather.ensures _ (low (goal.at.returns c).After-prepare-b).0 is.number is.weight
+    let places = low (goal.at.returns c).After-prepare-b in
+    ready-support r _ _ places.1 c.gather.ensures _ places.0 is.number
+    (is.weight ∙ weight-first _ _ (ready-bonds r) _)
     is.yes?

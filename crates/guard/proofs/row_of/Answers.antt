@@ -1,13 +1,12 @@
 -- `guard::row_of` meets its contract, case by case. Assumes nothing.
-use mathlib.Core.Path.{sym, ap, ◌∙◌}
+use mathlib.Core.Path.{◌∙◌}
 use Rattle.model.specs.Answer.{row_of}
-use Rattle.guard.specs.Signing.{sign_answer_of}
 use Rattle.guard.proofs.row_of.Goals as goal
 
-pub returns-in-Signed : goal.returns-in-Signed
+pub returns-in-Ok : goal.returns-in-Ok
 unfolding row_of
-returns-in-Signed c = sym (ap (λ a. row_of (sign_answer_of a)) c.in-Signed.is)
+returns-in-Ok c = rw c.in-Ok.is
 
-pub returns-in-Refused : goal.returns-in-Refused
+pub returns-in-Err : goal.returns-in-Err
 unfolding row_of
-returns-in-Refused c = c.refusal_number.ensures ∙ sym (ap (λ a. row_of (sign_answer_of a)) c.in-Refused.is)
+returns-in-Err c = rw c.in-Err.is (c.from-in-Err.ensures ∙ c.from.ensures)

@@ -6,5 +6,4 @@ use Rattle.voters.proofs.total_bond.Goals as goal
 
 pub returns : goal.returns
 returns c =
-    let start = c.before.before in
-    c.weigh.ensures ∙ sum_same start.args.members _ _ _ _ (λ i h. all_among i (omega (arith, start.requires.fit))) (λ i h. refl)
+    c.weigh.ensures ∙ sum_same _ _ _ _ _ (λ i h. all_among i (omega (arith, c.requires.fit))) (λ i h. refl)
