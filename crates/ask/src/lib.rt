@@ -5,10 +5,8 @@ ghost use Rattle.std.specs.Prelude.{◌≡◌};
 ghost use Rattle.model.specs.Log.{header};
 ghost use Rattle.ask.specs.Book.{IsAnswers, book_buffer};
 
-use answers::{ConflictAnswer, StatusAnswer};
-use checker::CheckAnswer;
-use model::{MAX_MEMBERS, Place, WriteAnswer};
-use state::{Outcome, Start, Witness};
+use model::{MAX_MEMBERS, Place, Refusal, Status};
+use state::{Outcome, Witness};
 
 // What can be asked of a log: what the last record read came to (of a bundle that is not refused whole, with the row
 // that refused each of its votes, or 0) and how many were read, the standing of a place, the conflict, our list, and a
@@ -18,10 +16,10 @@ pub struct Answers {
     pub last: Outcome,
     pub rows: [u8; MAX_MEMBERS],
     pub records: u64,
-    pub status: StatusAnswer,
-    pub conflict: ConflictAnswer,
-    pub ours: WriteAnswer,
-    pub theirs: CheckAnswer,
+    pub status: Result<Status, Refusal>,
+    pub conflict: Result<bool, Refusal>,
+    pub ours: Result<usize, Refusal>,
+    pub theirs: Result<u64, Refusal>,
 }
 
 // A log read from its header to its end or its stop, or to its first `limit` records, then asked; our list goes into
@@ -37,7 +35,7 @@ pub fn ask(w: Witness, log: &[u8], limit: u64, p: Place, theirs: &[u8], buf: &mu
     let rows = read.rows;
     let held = read.witness;
     match start {
-        Start::Begun => Answers {
+        Ok(()) => Answers {
             last,
             rows,
             records: read.records,
@@ -46,14 +44,14 @@ pub fn ask(w: Witness, log: &[u8], limit: u64, p: Place, theirs: &[u8], buf: &mu
             ours: answers::write_list(held, buf),
             theirs: answers::check_list(held, theirs),
         },
-        Start::Refused(refusal) => Answers {
-            last: Outcome::Refused(refusal),
+        Err(refusal) => Answers {
+            last: Err(refusal),
             rows: [0u8; MAX_MEMBERS],
             records: 0,
-            status: StatusAnswer::Refused(refusal),
-            conflict: ConflictAnswer::Refused(refusal),
-            ours: WriteAnswer::Refused(refusal),
-            theirs: CheckAnswer::Refused(refusal),
+            status: Err(refusal),
+            conflict: Err(refusal),
+            ours: Err(refusal),
+            theirs: Err(refusal),
         },
     }
 }

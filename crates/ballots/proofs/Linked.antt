@@ -14,7 +14,7 @@ use Rattle.model.specs.Lists.{first_index, same_bytes}
 use Rattle.model.specs.Model.{Model, Link, link, place_of, name_held}
 use Rattle.model.specs.Tree.{ancestor?}
 use Rattle.std.specs.Prelude.{Option, Some, None, Ok, Err, MatchOption}
-use Rattle.std.specs.Option.{ok_or}
+use Rattle.std.specs.Option.{is_some, ok_or}
 use Rattle.model.specs.declared.Height.{Height}
 use Rattle.model.specs.declared.Refusal.{Refusal}
 use Rattle.tables.specs.Places.{height_at}
@@ -44,6 +44,10 @@ module _ {m : Model} {names : List ℕ} {n : ℕ} (from : ℕ) (log : List ℕ) 
   pub held-some : {r : ℕ} → (r ≡ first) × (r < n) → name_held m (part from 32 log) ≡ true
   held-some {r} so = held_at from log held so.0 ∙ lt-ltb r n so.1
 
+  pub name-found : (r : Option ℕ) → MatchOption r (first ≡ n) (λ i. (i ≡ first) × (i < n)) → name_held m (part from 32 log) ≡ is_some r
+  name-found None e = held-none e
+  name-found (Some i) so = held-some so
+
 -- what was found, or the refusal where nothing was
 pub found-none : (P : Type 0) (Q : ℕ → Type 0) (e : Refusal) {x : Refusal} (r : Option ℕ) → ok_or r e ≡ Err x → MatchOption r P Q → P × (x ≡ e)
 found-none P Q e None was h = (h, cc)
@@ -52,6 +56,14 @@ found-none P Q e (Some i) was h = let z : ◌≡◌ {A = ℕ} 0 1 = cc in absurd
 pub found-some : (P : Type 0) (Q : ℕ → Type 0) (e : Refusal) {i : ℕ} (r : Option ℕ) → ok_or r e ≡ Ok i → MatchOption r P Q → Q i
 found-some P Q e None was h = let z : ◌≡◌ {A = ℕ} 0 1 = cc in absurd (omega arith)
 found-some P Q e {i} (Some j) was h = let same : j ≡ i = cc in subst Q same h
+
+pub none-is : (e : Refusal) {x : Refusal} (r : Option ℕ) → ok_or r e ≡ Err x → (is_some r ≡ false) × (x ≡ e)
+none-is e None was = (refl, cc)
+none-is e (Some i) was = let z : ◌≡◌ {A = ℕ} 0 1 = cc in absurd (omega arith)
+
+pub some-is : (e : Refusal) {i : ℕ} (r : Option ℕ) → ok_or r e ≡ Ok i → is_some r ≡ true
+some-is e None was = let z : ◌≡◌ {A = ℕ} 0 1 = cc in absurd (omega arith)
+some-is e (Some j) was = refl
 
 -- the link that the code found is the one named
 pub link-rows : (m : Model) (source target : List ℕ) (h k : ℕ) {b31 b32 : Bool} {s t : ℕ}

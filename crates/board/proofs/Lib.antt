@@ -1,3 +1,3 @@
 pub mod Widths
-pub mod Rows
+pub mod RowLines
 pub mod Drawing

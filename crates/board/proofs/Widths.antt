@@ -1,7 +1,7 @@
 -- How wide the fields of a row are, and a row put together from them.
 use Prim.Native.Nat.{ℕ, ◌+◌, ◌≤◌}
 use native.Mathlib.Omega.{arith}
-use mathlib.Core.Path.{◌≡◌, ap, ◌∙◌}
+use mathlib.Core.Path.{◌≡◌, ◌∙◌}
 use mathlib.Core.List.{◌++◌, append_assoc}
 use lib.ListN.{length, length-append}
 use Rattle.model.specs.Paper.{blanks, left, right, row_text}

@@ -1,10 +1,12 @@
 // The lines of the paper: 64 columns and a newline each.
 ghost use Rattle.std.specs.Prelude.{◌+◌, ◌≤◌, ◌++◌, ◌≡◌, length, replicate};
-ghost use Rattle.model.specs.Paper.{blanks, left, right, row_text, heading};
+ghost use Rattle.model.specs.Paper.{blanks, left, right, heading};
 ghost use Rattle.model.specs.Report.{decimal, newline, status_text};
 ghost use Rattle.text.specs.Put.{Put};
+ghost use Rattle.board.specs.Rows.{line_of};
 
-use model::{Height, Place, Status};
+use crate::rows::Row;
+use model::{Place, Status};
 use text::{fill, put, put_number, put_right};
 
 // A number in its columns, and the two blanks before the next field.
@@ -29,23 +31,15 @@ fn put_standing(buf: &mut [u8], at: usize, s: Status) -> usize
 }
 
 // The row of a checkpoint.
-pub fn put_row(
-    buf: &mut [u8],
-    at: usize,
-    p: Place,
-    h: Height,
-    s: Status,
-    number: u8,
-    bonds: u64,
-) -> usize
+pub fn put_row(buf: &mut [u8], at: usize, p: Place, row: &Row) -> usize
     requires { at + 65 ≤ length buf.old }
-    ensures { Put buf.old at (row_text p.0 h.0 s number bonds) buf.new result × (result ≡ at + 65) }
+    ensures { Put buf.old at (line_of p.0 row.now) buf.new result × (result ≡ at + 65) }
 {
     let one = put_field(buf, at, 5, p.0 as u64);
-    let two = put_field(buf, one, 10, h.0 as u64);
-    let three = put_standing(buf, two, s);
-    let four = put_field(buf, three, 5, number as u64);
-    let five = put_right(buf, four, 24, bonds);
+    let two = put_field(buf, one, 10, row.height.0 as u64);
+    let three = put_standing(buf, two, row.status);
+    let four = put_field(buf, three, 5, row.number as u64);
+    let five = put_right(buf, four, 24, row.bonds);
     put(buf, five, b"\n")
 }
 

@@ -17,22 +17,22 @@ ghost use Rattle.feeding.specs.Feed.{open_call, feed_call, end_call};
 ghost use Rattle.codes.specs.Numbers.{status_number, yes_number, IsAnswered, IsBacked, IsBegun, IsRead, IsReplayed};
 ghost use Rattle.codes.specs.Numbers.{IsMovedRoot, IsPiece};
 
-use answers::{ConflictAnswer, StatusAnswer, SupportAnswer};
-use checker::CheckAnswer;
-use codes::{Answered, Backed, Begun, Moved, Piece, Read, Replay};
+use codes::{Answered, Backed, Begun, Moved, Piece, Read, Replay, Tells};
 use model::Place;
-use state::Witness;
+use replay::Replayed;
+use state::{Beginning, Reading, Witness};
 
 // Reading a header: rows 1 to 3. Any state is taken; a refusal leaves it as it was.
 #[unsafe(no_mangle)]
 pub extern "C" fn ffw_begin(w: Witness, log: &[u8]) -> Begun
     ensures { IsBegun (header log.now) (begin_with w (header log.now)) result }
 {
-    let begun = witness::begin(w, log);
-    let start = begun.outcome;
-    let witness = begun.witness;
+    let Beginning {
+        outcome: header,
+        witness,
+    } = witness::begin(w, log);
     Begun {
-        refused: codes::start_number(start),
+        refused: codes::refused_by(header),
         witness,
     }
 }
@@ -43,19 +43,23 @@ pub extern "C" fn ffw_begin(w: Witness, log: &[u8]) -> Begun
 pub extern "C" fn ffw_replay(w: Witness, log: &[u8], limit: u64) -> Replay
     ensures { IsReplayed (header log.now) (replayed w log.now limit (header log.now)) result }
 {
-    let replayed = replay::replay(w, log, limit);
-    let start = replayed.start;
-    let read = replayed.read;
-    let last = read.last;
-    let rows = read.rows;
-    let records = read.records;
-    let witness = read.witness;
-    let told = codes::tell(last);
+    let Replayed { start, read } = replay::replay(w, log, limit);
+    let replay::Read {
+        last,
+        rows,
+        records,
+        witness,
+    } = read;
+    let Tells {
+        refused,
+        taken,
+        votes,
+    } = Tells::from(last);
     Replay {
-        header: codes::start_number(start),
-        refused: told.refused,
-        taken: told.taken,
-        votes: told.votes,
+        header: codes::refused_by(start),
+        refused,
+        taken,
+        votes,
         rows,
         records,
         witness,
@@ -67,16 +71,21 @@ pub extern "C" fn ffw_replay(w: Witness, log: &[u8], limit: u64) -> Replay
 pub extern "C" fn ffw_read(w: Witness, log: &[u8], at: usize) -> Read
     ensures { let s = drop at log.now in IsRead w (event_call w (reading s)) (at + passed w s) result }
 {
-    let reading = witness::read(w, log, at);
-    let outcome = reading.outcome;
-    let rows = reading.rows;
-    let next = reading.next;
-    let witness = reading.witness;
-    let told = codes::tell(outcome);
+    let Reading {
+        outcome,
+        rows,
+        next,
+        witness,
+    } = witness::read(w, log, at);
+    let Tells {
+        refused,
+        taken,
+        votes,
+    } = Tells::from(outcome);
     Read {
-        refused: told.refused,
-        taken: told.taken,
-        votes: told.votes,
+        refused,
+        taken,
+        votes,
         rows,
         next,
         witness,
@@ -89,12 +98,9 @@ pub extern "C" fn ffw_read(w: Witness, log: &[u8], at: usize) -> Read
 pub extern "C" fn ffw_move_root(w: Witness, place: Place) -> Moved
     ensures { IsMovedRoot w (event_call w (moving place.0)) result }
 {
-    let moved = witness::move_root(w, place);
-    let outcome = moved.outcome;
-    let witness = moved.witness;
-    let answer = codes::tell(outcome);
+    let mover::Moved { outcome, witness } = witness::move_root(w, place);
     Moved {
-        refused: answer.refused,
+        refused: codes::refused_by(outcome),
         witness,
     }
 }
@@ -112,35 +118,23 @@ pub extern "C" fn ffw_sound(w: Witness) -> bool
 pub extern "C" fn ffw_status(w: Witness, place: Place) -> Answered
     ensures { IsAnswered status_number (status_call w place.0) result }
 {
-    match answers::status(w, place) {
-        StatusAnswer::Is(s) => Answered {
-            refused: 0,
-            value: codes::status_number(s),
-        },
-        StatusAnswer::Refused(r) => Answered {
-            refused: codes::number(r),
-            value: 0,
-        },
-    }
+    Answered::from(answers::status(w, place).map(codes::status_number))
 }
 
 // The backing of a link between two held places; rows 40 and 41.
 #[unsafe(no_mangle)]
+#[tactic(auto, using(codes::proofs::Told::byte_of), unfolding(model::specs::Answer::row_of))]
 pub extern "C" fn ffw_support(w: Witness, source: Place, target: Place) -> Backed
     ensures { IsBacked (support_call w source.0 target.0) result }
 {
     match answers::support(w, source, target) {
-        SupportAnswer::Is(b) => {
-            let number = b.number as u64;
-            let quorum = b.quorum as u64;
-            Backed {
-                refused: 0,
-                number,
-                bonds: b.bonds,
-                quorum,
-            }
-        }
-        SupportAnswer::Refused(r) => Backed {
+        Ok(b) => Backed {
+            refused: 0,
+            number: u64::from(b.number),
+            bonds: b.bonds,
+            quorum: u64::from(b.quorum),
+        },
+        Err(r) => Backed {
             refused: codes::number(r),
             number: 0,
             bonds: 0,
@@ -154,16 +148,7 @@ pub extern "C" fn ffw_support(w: Witness, source: Place, target: Place) -> Backe
 pub extern "C" fn ffw_conflict(w: Witness) -> Answered
     ensures { IsAnswered yes_number (conflict_call w) result }
 {
-    match answers::conflict(w) {
-        ConflictAnswer::Is(yes) => Answered {
-            refused: 0,
-            value: yes as u64,
-        },
-        ConflictAnswer::Refused(r) => Answered {
-            refused: codes::number(r),
-            value: 0,
-        },
-    }
+    Answered::from(answers::conflict(w).map(u64::from))
 }
 
 // Our list of charges into a lent buffer: its length; rows 40 and 60, which leave the buffer unwritten.
@@ -172,7 +157,7 @@ pub extern "C" fn ffw_list(w: Witness, buf: &mut [u8]) -> Answered
     ensures { IsAnswered (λ n. n) (write_call our_list w buf.old) result
         × (buf.new ≡ write_buffer our_list w buf.old) }
 {
-    codes::tell_length(answers::write_list(w, buf))
+    Answered::from(answers::write_list(w, buf))
 }
 
 // The board paper into a lent buffer: its length; rows 40 and 60, which leave the buffer unwritten.
@@ -181,7 +166,7 @@ pub extern "C" fn ffw_paper(w: Witness, buf: &mut [u8]) -> Answered
     ensures { IsAnswered (λ n. n) (write_call paper w buf.old) result
         × (buf.new ≡ write_buffer paper w buf.old) }
 {
-    codes::tell_length(answers::write_paper(w, buf))
+    Answered::from(answers::write_paper(w, buf))
 }
 
 // Checking a list of charges: the sum of the named bonds; rows 40 and 50 to 57.
@@ -189,16 +174,7 @@ pub extern "C" fn ffw_paper(w: Witness, buf: &mut [u8]) -> Answered
 pub extern "C" fn ffw_check(w: Witness, list: &[u8]) -> Answered
     ensures { IsAnswered (λ n. n) (check_call w list.now) result }
 {
-    match answers::check_list(w, list) {
-        CheckAnswer::Sum(n) => Answered {
-            refused: 0,
-            value: n,
-        },
-        CheckAnswer::Refused(r) => Answered {
-            refused: codes::number(r),
-            value: 0,
-        },
-    }
+    Answered::from(answers::check_list(w, list))
 }
 
 // The report of a log, fed in pieces: its first bytes, the header among them; `last` says that the log has no more. Any
@@ -208,7 +184,7 @@ pub extern "C" fn ffw_open(w: Witness, log: &[u8], last: bool, buf: &mut [u8]) -
     ensures { IsPiece (open_call last (length buf.old) w log.now) 0 buf.old result
         buf.new }
 {
-    codes::in_numbers(report::open(w, log, last, buf))
+    Piece::from(report::open(w, log, last, buf))
 }
 
 // The records of a piece from `at` on, while 8,192 bytes of the buffer are free; row 40.
@@ -217,7 +193,7 @@ pub extern "C" fn ffw_feed(w: Witness, records: u64, log: &[u8], at: usize, buf:
     ensures { IsPiece (feed_call (length buf.old) w records (drop at log.now)) at buf.old result
         buf.new }
 {
-    codes::in_numbers(report::feed(w, records, log, at, buf))
+    Piece::from(report::feed(w, records, log, at, buf))
 }
 
 // The end of the log, where `left` of its bytes were not passed.
@@ -225,5 +201,5 @@ pub extern "C" fn ffw_feed(w: Witness, records: u64, log: &[u8], at: usize, buf:
 pub extern "C" fn ffw_close(w: Witness, records: u64, left: usize, buf: &mut [u8]) -> Piece
     ensures { IsPiece (end_call (length buf.old) w records left) 0 buf.old result buf.new }
 {
-    codes::in_numbers(report::close(w, records, left, buf))
+    Piece::from(report::close(w, records, left, buf))
 }

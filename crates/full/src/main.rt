@@ -5,10 +5,9 @@
 
 ghost use Rattle.std.specs.Prelude.{◌≡◌, ◌+◌, ◌≤◌, ◌<◌, length};
 
-use answers::{ConflictAnswer, StatusAnswer, SupportAnswer};
-use checker::CheckAnswer;
-use model::{Place, Refusal, Status, WriteAnswer};
-use state::{Outcome, Witness};
+use model::{Place, Refusal, Status};
+use state::{Passed, Witness};
+use std::io;
 
 // The offsets of the 129th member, the 512th checkpoint record and the 4,097th vote, which find the witness full.
 const EXTRA_MEMBER: usize = 1445;
@@ -23,15 +22,9 @@ const EARLY: usize = 265136;
 // What the bonds of the light members come to.
 const LIGHT_SUM: u64 = 58_974;
 
-// The byte of a number that has `below` bytes after it.
+// The byte of a number that has `below` bytes after it; 0 where the number has no such byte.
 fn digit(number: u64, below: usize) -> u8 {
-    let mut rest = number;
-    let mut i = below;
-    while 0 < i {
-        rest = rest / 256;
-        i -= 1;
-    }
-    (rest % 256) as u8
+    number.to_le_bytes().get(below).copied().unwrap_or(0)
 }
 
 // Byte k of the name of checkpoint p. Names begin alike; after that every second byte is by p, the others by p / 256.
@@ -87,17 +80,10 @@ fn parent(p: usize) -> usize
     if p == 1 {
         return 0;
     }
-    let q = (p - 1) % 8;
-    if q == 0 {
-        return p - 4;
+    match (p - 1) % 8 {
+        0 | 5 | 7 => p - 4,
+        _ => p - 1,
     }
-    if q == 5 {
-        return p - 4;
-    }
-    if q == 7 {
-        return p - 4;
-    }
-    p - 1
 }
 
 // The height of checkpoint p.
@@ -131,23 +117,13 @@ fn source(n: usize) -> usize
     requires { n < 512 }
     ensures { result ≤ 512 }
 {
-    let q = n % 8;
-    if q == 0 {
-        return parent(n + 1);
+    match n % 8 {
+        0 => parent(n + 1),
+        2 | 4 => n - 1,
+        5 => n - 3,
+        7 => 0,
+        _ => n,
     }
-    if q == 2 {
-        return n - 1;
-    }
-    if q == 4 {
-        return n - 1;
-    }
-    if q == 5 {
-        return n - 3;
-    }
-    if q == 7 {
-        return 0;
-    }
-    n
 }
 
 // Who votes for a link. Five heavy members are a quorum and four are none without middle ones.
@@ -395,260 +371,170 @@ fn log_byte(at: usize) -> u8
 fn fill(log: &mut [u8])
     requires { length log.old ≤ 342011 }
 {
-    let mut at: usize = 0;
-    while at < log.len() {
-        log[at] = log_byte(at);
-        at += 1;
+    for (at, byte) in log.iter_mut().enumerate() {
+        *byte = log_byte(at);
     }
 }
 
-// The number of a refusal in document 01's table, of those that are met here; 0 for any other.
-fn number(r: Refusal) -> u64 {
-    match r {
-        Refusal::MembersFixed => 10,
-        Refusal::MembersFull => 13,
-        Refusal::CheckpointsFull => 22,
-        Refusal::VotesFull => 36,
-        Refusal::UnsoundState => 40,
-        Refusal::PlaceNotHeld => 41,
-        _ => 0,
-    }
+fn print_refused(rt: HostRuntime, r: Refusal) -> io::Result<()> {
+    println!(rt; "refused {}", u8::from(r))
 }
 
-// Some bytes to standard output. Where they cannot be written, the stored output is not met.
-fn say_word(rt: HostRuntime, word: &[u8]) {
-    let _ = rt.write_all(word);
-}
-
-fn say(rt: HostRuntime, word: &[u8], n: u64) {
-    say_word(rt, word);
-    let _ = rt.print(n);
-}
-
-fn end_line(rt: HostRuntime) {
-    say_word(rt, b"\n");
-}
-
-fn say_refused(rt: HostRuntime, r: Refusal) {
-    say(rt, b"refused ", number(r));
-    end_line(rt);
-}
-
-fn say_counts(rt: HostRuntime, w: Witness) {
-    say(rt, b"members ", w.member_count as u64);
-    say(rt, b" checkpoints ", w.checkpoint_count as u64);
-    say(rt, b" votes ", w.vote_count as u64);
-    end_line(rt);
+fn print_counts(rt: HostRuntime, w: &Witness) -> io::Result<()> {
+    let members = w.member_count;
+    let checkpoints = w.checkpoint_count;
+    let votes = w.vote_count;
+    println!(rt; "members {members} checkpoints {checkpoints} votes {votes}")
 }
 
 // What the record at an offset comes to.
-fn say_reading(rt: HostRuntime, w: Witness, log: &[u8], at: usize) {
-    say(rt, b"at ", at as u64);
-    say_word(rt, b": ");
-    let r = witness::read(w, log, at);
-    let outcome = r.outcome;
-    match outcome {
-        Outcome::Nothing => {
-            say_word(rt, b"nothing left\n");
-        }
-        Outcome::Taken => {
-            say_word(rt, b"taken\n");
-        }
-        Outcome::Bundled(n) => {
-            say(rt, b"bundle of ", n as u64);
-            end_line(rt);
-        }
-        Outcome::Refused(refusal) => say_refused(rt, refusal),
+fn print_reading(rt: HostRuntime, w: Witness, log: &[u8], at: usize) -> io::Result<()> {
+    print!(rt; "at {at}: ")?;
+    match witness::read(w, log, at).outcome {
+        Ok(Passed::Nothing) => println!(rt; "nothing left"),
+        Ok(Passed::Taken) => println!(rt; "taken"),
+        Ok(Passed::Bundled(n)) => println!(rt; "bundle of {n}"),
+        Err(r) => print_refused(rt, r),
     }
 }
 
-fn say_status(rt: HostRuntime, w: Witness, p: u16) {
+fn print_status(rt: HostRuntime, w: Witness, p: u16) -> io::Result<()> {
     match answers::status(w, Place(p)) {
-        StatusAnswer::Is(s) => match s {
-            Status::Plain => {
-                say_word(rt, b"p");
-            }
-            Status::Justified => {
-                say_word(rt, b"j");
-            }
-            Status::Final => {
-                say_word(rt, b"f");
-            }
-        },
-        StatusAnswer::Refused(r) => say_refused(rt, r),
+        Ok(Status::Plain) => print!(rt; "p"),
+        Ok(Status::Justified) => print!(rt; "j"),
+        Ok(Status::Final) => print!(rt; "f"),
+        Err(r) => print_refused(rt, r),
     }
 }
 
 // A letter for each place, 64 to a line.
-fn say_statuses(rt: HostRuntime, w: Witness) {
-    let mut p: u16 = 0;
-    while p < 512 {
-        say_status(rt, w, p);
+fn print_statuses(rt: HostRuntime, w: Witness) -> io::Result<()> {
+    for p in 0..512 {
+        print_status(rt, w, p)?;
         if p % 64 == 63 {
-            end_line(rt);
+            println!(rt; "")?;
         }
-        p += 1;
     }
+    Ok(())
 }
 
-fn say_support(rt: HostRuntime, w: Witness, s: u16, t: u16) {
-    say(rt, b"", s as u64);
-    say(rt, b" ", t as u64);
-    say_word(rt, b": ");
+fn yes_no(b: bool) -> &'static str {
+    if b { "yes" } else { "no" }
+}
+
+fn print_support(rt: HostRuntime, w: Witness, s: u16, t: u16) -> io::Result<()> {
+    print!(rt; "{s} {t}: ")?;
     match answers::support(w, Place(s), Place(t)) {
-        SupportAnswer::Is(b) => {
-            say(rt, b"", b.number as u64);
-            say(rt, b" ", b.bonds);
-            if b.quorum {
-                say_word(rt, b" yes\n");
-            } else {
-                say_word(rt, b" no\n");
-            }
-        }
-        SupportAnswer::Refused(r) => say_refused(rt, r),
+        Ok(b) => println!(rt; "{} {} {}", b.number, b.bonds, yes_no(b.quorum)),
+        Err(r) => print_refused(rt, r),
     }
 }
 
 // The support of every fifth link, counted round, of 128.
-fn say_links(rt: HostRuntime, w: Witness) {
-    let mut j: usize = 0;
-    while j < 128 {
+fn print_links(rt: HostRuntime, w: Witness) -> io::Result<()> {
+    for j in 0..128 {
         let n = j * 5 % 512;
-        say_support(rt, w, source(n) as u16, target(n) as u16);
-        j += 1;
+        print_support(rt, w, source(n) as u16, target(n) as u16)?;
     }
+    Ok(())
 }
 
 // The support of links from the root, and of pairs of places that are no link.
-fn say_pairs(rt: HostRuntime, w: Witness) {
-    let mut j: u16 = 0;
-    while j < 24 {
-        say_support(rt, w, 0, j * 21 + 1);
-        say_support(rt, w, j * 67 % 512, (j * 131 + 3) % 512);
-        j += 1;
+fn print_pairs(rt: HostRuntime, w: Witness) -> io::Result<()> {
+    for j in 0..24 {
+        print_support(rt, w, 0, j * 21 + 1)?;
+        print_support(rt, w, j * 67 % 512, (j * 131 + 3) % 512)?;
     }
+    Ok(())
 }
 
-fn say_conflict(rt: HostRuntime, w: Witness) {
+fn print_conflict(rt: HostRuntime, w: Witness) -> io::Result<()> {
     match answers::conflict(w) {
-        ConflictAnswer::Is(b) => {
-            if b {
-                say_word(rt, b"conflict yes\n");
-            } else {
-                say_word(rt, b"conflict no\n");
-            }
-        }
-        ConflictAnswer::Refused(r) => say_refused(rt, r),
+        Ok(b) => println!(rt; "conflict {}", yes_no(b)),
+        Err(r) => print_refused(rt, r),
     }
-}
-
-fn wide(x: u8) -> u64
-    ensures { result < 256 }
-{
-    x as u64
-}
-
-// The 16-bit number at an offset.
-fn pair(s: &[u8], at: usize) -> u64
-    requires { at + 2 ≤ length s.now }
-{
-    wide(s[at]) * 256 + wide(s[at + 1])
 }
 
 // The entries of a list: id, earlier vote, later vote.
-fn say_entries(rt: HostRuntime, list: &[u8]) {
-    let mut at: usize = 7;
-    while at < list.len() {
-        if list.len() - at < 6 {
-            return;
-        }
-        say(rt, b"charged ", pair(list, at));
-        say(rt, b" ", pair(list, at + 2));
-        say(rt, b" ", pair(list, at + 4));
-        end_line(rt);
-        at += 6;
+fn print_entries(rt: HostRuntime, list: &[u8]) -> io::Result<()> {
+    let (entries, _) = list.get(7..).unwrap_or(&[]).as_chunks::<6>();
+    for [a, b, c, d, e, f] in entries {
+        let id = u16::from_be_bytes([*a, *b]);
+        let earlier = u16::from_be_bytes([*c, *d]);
+        let later = u16::from_be_bytes([*e, *f]);
+        println!(rt; "charged {id} {earlier} {later}")?;
     }
+    Ok(())
 }
 
-// The first n bytes: the entries, and what the checker says of them.
-fn say_charges(rt: HostRuntime, w: Witness, buf: &[u8], n: usize) {
-    if buf.len() < n {
-        return;
-    }
-    let list = &buf[..n];
-    say_entries(rt, list);
+// The entries of a list, and what the checker says of them.
+fn print_charges(rt: HostRuntime, w: Witness, list: &[u8]) -> io::Result<()> {
+    print_entries(rt, list)?;
     match answers::check_list(w, list) {
-        CheckAnswer::Sum(sum) => {
-            say(rt, b"named ", sum);
-            end_line(rt);
-        }
-        CheckAnswer::Refused(r) => say_refused(rt, r),
+        Ok(sum) => println!(rt; "named {sum}"),
+        Err(r) => print_refused(rt, r),
     }
 }
 
 // Our list, which has room for every member.
-fn say_list(rt: HostRuntime, w: Witness) {
-    let mut buf = [0u8; 775];
+fn print_list(rt: HostRuntime, w: Witness) -> io::Result<()> {
+    let mut buf = [0; 775];
     match answers::write_list(w, &mut buf) {
-        WriteAnswer::Length(n) => say_charges(rt, w, &buf, n),
-        WriteAnswer::Refused(r) => say_refused(rt, r),
+        Ok(n) => print_charges(rt, w, &buf[..n.min(775)]),
+        Err(r) => print_refused(rt, r),
     }
 }
 
 // What a log leaves; it has fewer than 5,000 records.
 fn left_by(log: &[u8]) -> Witness {
-    let replayed = replay::replay(blank::blank(), log, 5000);
-    let read = replayed.read;
-    read.witness
+    replay::replay(blank::blank(), log, 5000).read.witness
 }
 
-// What the first `end` bytes of the log leave.
-fn held(log: &[u8], end: usize) -> Witness
-    requires { end ≤ length log.now }
-{
-    left_by(&log[..end])
-}
-
-fn say_standing(rt: HostRuntime, w: Witness) {
-    say_counts(rt, w);
-    say_statuses(rt, w);
-    say_conflict(rt, w);
+fn print_standing(rt: HostRuntime, w: Witness) -> io::Result<()> {
+    print_counts(rt, &w)?;
+    print_statuses(rt, w)?;
+    print_conflict(rt, w)
 }
 
 // The 129th member comes with no checkpoint yet; row 10 would refuse it later.
-fn say_members(rt: HostRuntime, log: &[u8])
+fn print_members(rt: HostRuntime, log: &[u8]) -> io::Result<()>
     requires { length log.now ≡ 342011 }
 {
-    let w = held(log, EXTRA_MEMBER);
-    say_counts(rt, w);
-    say_reading(rt, w, log, EXTRA_MEMBER);
-    say_conflict(rt, w);
+    let w = left_by(&log[..EXTRA_MEMBER]);
+    print_counts(rt, &w)?;
+    print_reading(rt, w, log, EXTRA_MEMBER)?;
+    print_conflict(rt, w)
 }
 
 // The standings after 3,072 votes, most of which wait for a later vote to justify their source; then those of the log.
-fn say_standings(rt: HostRuntime, log: &[u8])
+fn print_standings(rt: HostRuntime, log: &[u8]) -> io::Result<()>
     requires { length log.now ≡ 342011 }
 {
-    say_standing(rt, held(log, EARLY));
-    say_standing(rt, left_by(log));
+    print_standing(rt, left_by(&log[..EARLY]))?;
+    print_standing(rt, left_by(log))
 }
 
-fn say_rest(rt: HostRuntime, log: &[u8]) {
+fn print_rest(rt: HostRuntime, log: &[u8]) -> io::Result<()> {
     let w = left_by(log);
-    say_reading(rt, w, log, EXTRA_CHECKPOINT);
-    say_reading(rt, w, log, EXTRA_VOTE);
-    say_status(rt, w, 512);
-    say_links(rt, w);
-    say_pairs(rt, w);
-    say_support(rt, w, 512, 0);
-    say_support(rt, w, 0, 512);
-    say_list(rt, w);
+    print_reading(rt, w, log, EXTRA_CHECKPOINT)?;
+    print_reading(rt, w, log, EXTRA_VOTE)?;
+    print_status(rt, w, 512)?;
+    print_links(rt, w)?;
+    print_pairs(rt, w)?;
+    print_support(rt, w, 512, 0)?;
+    print_support(rt, w, 0, 512)?;
+    print_list(rt, w)
+}
+
+fn print_all(rt: HostRuntime) -> io::Result<()> {
+    let mut log = [0; 342011];
+    fill(&mut log);
+    print_members(rt, &log)?;
+    print_standings(rt, &log)?;
+    print_rest(rt, &log)
 }
 
 fn main(rt: HostRuntime) {
-    let mut log = [0u8; 342011];
-    fill(&mut log);
-    say_members(rt, &log);
-    say_standings(rt, &log);
-    say_rest(rt, &log);
+    // Where the answers cannot be printed, the stored output is not met.
+    let _ = print_all(rt);
 }

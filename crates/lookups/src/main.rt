@@ -6,7 +6,10 @@
 
 ghost use Rattle.std.specs.Prelude.{◌≡◌, ◌+◌, ◌≤◌, ◌<◌, length};
 
+use model::{MAX_CHECKPOINTS, NAME_BYTES};
+use names::{find_name, names_twice};
 use state::Witness;
+use std::io;
 
 // Where the table has the name of checkpoint 511.
 const LAST_NAME: usize = 16352;
@@ -28,9 +31,8 @@ fn header_byte(d: usize, at: usize) -> u8
     requires { (d < 32) × (at < 37) }
 {
     match at {
-        0 => 70,
-        1 => 70,
-        2 => 87,
+        0 | 1 => b'F',
+        2 => b'W',
         3 => 0,
         4 => 1,
         _ => name_byte(d, 0, at - 5),
@@ -111,10 +113,8 @@ fn log_byte(d: usize, at: usize) -> u8
 fn fill(log: &mut [u8], d: usize)
     requires { (length log.old ≤ 71588) × (d < 32) }
 {
-    let mut at: usize = 0;
-    while at < log.len() {
-        log[at] = log_byte(d, at);
-        at += 1;
+    for (at, byte) in log.iter_mut().enumerate() {
+        *byte = log_byte(d, at);
     }
 }
 
@@ -129,137 +129,97 @@ fn name_at(p: usize) -> usize
     p * 65 - 16
 }
 
-// Some bytes to standard output. Where they cannot be written, the stored output is not met.
-fn say_word(rt: HostRuntime, word: &[u8]) {
-    let _ = rt.write_all(word);
-}
-
-fn say(rt: HostRuntime, n: u64, after: &[u8]) {
-    let _ = rt.print(n);
-    say_word(rt, after);
-}
-
-fn end_line(rt: HostRuntime) {
-    say_word(rt, b"\n");
-}
-
-// The place of each of the 512 names among the first `count`, 16 to a line.
-fn say_places(rt: HostRuntime, w: Witness, count: usize, log: &[u8])
+// The place of each of the 512 names among the first `count`, or `count` where it is not among them; 16 to a line.
+fn print_places(rt: HostRuntime, w: &Witness, count: usize, log: &[u8]) -> io::Result<()>
     requires { (count ≤ 512) × (length log.now ≡ 71588) }
 {
-    let mut p: usize = 0;
-    while p < 512 {
-        say(
-            rt,
-            names::find_name(&w.names, count, log, name_at(p)) as u64,
-            b" ",
-        );
+    for p in 0..MAX_CHECKPOINTS {
+        let place = find_name(&w.names, count, log, name_at(p)).unwrap_or(count);
+        print!(rt; "{place} ")?;
         if p % 16 == 15 {
-            end_line(rt);
+            println!(rt; "")?;
         }
-        p += 1;
     }
-}
-
-fn wide(x: u8) -> u64
-    ensures { result < 256 }
-{
-    x as u64
+    Ok(())
 }
 
 // The name of s at `at`, with one bit of byte k changed.
 fn changed(s: &[u8], at: usize, k: usize) -> [u8; 32]
     requires { (at + 32 ≤ length s.now) × (k < 32) }
 {
-    let mut name = [0u8; 32];
-    let mut i: usize = 0;
-    while i < 32 {
-        name[i] = s[at + i];
-        i += 1;
-    }
-    name[k] = ((wide(s[at + k]) + 128) % 256) as u8;
+    let mut name = [0; 32];
+    name.copy_from_slice(&s[at..at + 32]);
+    name[k] ^= 128;
     name
 }
 
 // The place of the name of checkpoint 300 with each of its bytes changed in turn.
-fn say_changed(rt: HostRuntime, w: Witness, log: &[u8])
+fn print_changed(rt: HostRuntime, w: &Witness, log: &[u8]) -> io::Result<()>
     requires { length log.now ≡ 71588 }
 {
-    let mut k: usize = 0;
-    while k < 32 {
+    for k in 0..32 {
         let name = changed(log, name_at(300), k);
-        say(rt, names::find_name(&w.names, 512, &name, 0) as u64, b" ");
-        k += 1;
+        let place = find_name(&w.names, MAX_CHECKPOINTS, &name, 0).unwrap_or(MAX_CHECKPOINTS);
+        print!(rt; "{place} ")?;
     }
-    end_line(rt);
+    println!(rt; "")
 }
 
-fn say_twice(rt: HostRuntime, names: &[u8; 16384], count: usize)
-    requires { (length names.now ≡ 16384) × (count ≤ 512) }
+fn print_twice(rt: HostRuntime, names: &[u8; NAME_BYTES], count: usize) -> io::Result<()>
+    requires { count ≤ 512 }
 {
-    if names::names_twice(names, count) {
-        say_word(rt, b"a name stands twice\n");
-    } else {
-        say_word(rt, b"no name stands twice\n");
-    }
+    let which = if names_twice(names, count) { "a" } else { "no" };
+    println!(rt; "{which} name stands twice")
 }
 
 // Whether a name stands twice in the table, and in one where checkpoint 511 has the name of checkpoint 5; then in that
 // table without its last name.
-fn say_repeated(rt: HostRuntime, w: Witness, d: usize)
+fn print_repeated(rt: HostRuntime, w: &Witness, d: usize) -> io::Result<()>
     requires { d < 31 }
 {
     let mut names = w.names;
-    say_twice(rt, &names, 512);
+    print_twice(rt, &names, 512)?;
     names[LAST_NAME + d] = 0;
     names[LAST_NAME + d + 1] = 5;
-    say_twice(rt, &names, 512);
-    say_twice(rt, &names, 511);
+    print_twice(rt, &names, 512)?;
+    print_twice(rt, &names, 511)
 }
 
 // Whether checkpoint i + 1 was read with checkpoint i as parent, and the vote for this step between these two.
-fn step_held(w: Witness, i: usize) -> bool
+fn is_step_held(w: &Witness, i: usize) -> bool
     requires { i < 511 }
 {
-    let parent = w.parents[i + 1];
-    let source = w.sources[i];
-    let target = w.targets[i];
-    (parent.0 as usize == i) & (source.0 as usize == i) & (target.0 as usize == i + 1)
+    let parent = usize::from(w.parents[i + 1].0);
+    let source = usize::from(w.sources[i].0);
+    let target = usize::from(w.targets[i].0);
+    parent == i && source == i && target == i + 1
 }
 
-// How many steps of the chain the witness holds as the log has them.
-fn say_steps(rt: HostRuntime, w: Witness) {
-    let mut steps: u64 = 0;
-    let mut i: usize = 0;
-    while i < 511 {
-        if step_held(w, i) {
-            steps += 1;
-        }
-        i += 1;
-    }
-    say(rt, steps, b" steps as the log has them\n");
-}
-
-// The tree of names that differ in bytes d and d + 1; its first 256 names differ in one byte alone.
-fn say_tree(rt: HostRuntime, d: usize)
+// The tree of names that differ in bytes d and d + 1; its first 256 names differ in one byte alone. Then how many steps
+// of the chain the witness holds as the log has them.
+fn print_tree(rt: HostRuntime, d: usize) -> io::Result<()>
     requires { d < 31 }
 {
-    let mut log = [0u8; 71588];
+    let mut log = [0; 71588];
     fill(&mut log, d);
-    let replayed = replay::replay(blank::blank(), &log, 2000);
-    let read = replayed.read;
-    let w = read.witness;
-    say_places(rt, w, 512, &log);
-    say_places(rt, w, 256, &log);
-    say_changed(rt, w, &log);
-    say_repeated(rt, w, d);
-    say_steps(rt, w);
+    let w = replay::replay(blank::blank(), &log, 2000).read.witness;
+    print_places(rt, &w, 512, &log)?;
+    print_places(rt, &w, 256, &log)?;
+    print_changed(rt, &w, &log)?;
+    print_repeated(rt, &w, d)?;
+    let steps = (0..511).filter(|i| is_step_held(&w, *i)).count();
+    println!(rt; "{steps} steps as the log has them")
 }
 
 // Names alike in their first 30 bytes, in their last 30, and in all but bytes 15 and 16, the end of one word and the
 // beginning of the next.
+fn print_trees(rt: HostRuntime) -> io::Result<()> {
+    print_tree(rt, 30)?;
+    print_tree(rt, 0)?;
+    print_tree(rt, 15)
+}
+
 fn main(rt: HostRuntime) {
-    say_tree(rt, 30);
-    say_tree(rt, 0);
-    say_tree(rt, 15);
+    // Where the answers cannot be printed, the stored output is not met.
+    let _ = print_trees(rt);
 }

@@ -16,10 +16,12 @@ use Rattle.model.specs.Model.{Model, Member, height_of, place_of, id_held, name_
 use Rattle.model.specs.Rule.{given?, permitted?}
 use Rattle.model.specs.declared.Quota.{Quota}
 use Rattle.model.proofs.Lists.{or_left, or_right}
+use Rattle.std.specs.Prelude.{Option, MatchOption}
+use Rattle.std.specs.Option.{is_some}
 use Rattle.names.specs.Rows.{rows}
 use Rattle.state.specs.Tables.{NamesHeld}
 use Rattle.state.proofs.Fields.{part_at, field_at}
-use Rattle.ballots.proofs.Linked.{found_at, held_at}
+use Rattle.ballots.proofs.Linked.{found_at, name-found}
 
 -- the member that the code read is the record's
 pub member-read : (at : ℕ) (log : List ℕ) {id bond : ℕ} → id ≡ field (at + 1) 2 log → bond ≡ field (at + 3) 8 log
@@ -71,14 +73,15 @@ unfolding decide_checkpoint
 checkpoint-rows m name parent e20 e21 e22 = rw (e20, e21, e22)
 
 -- the place found in the table is the model's, and so is whether the name is held; the name stands in a record
-module _ {m : Model} {names : List ℕ} {n : ℕ} (at i : ℕ) (log : List ℕ) {r : ℕ} where
-  pub found_name : NamesHeld m names n → r ≡ first_index (λ x. same_bytes x (part (at + i) 32 log)) (rows n names)
-      → place_of m.checkpoints (part i 32 (drop at log)) ≡ r
-  found_name h e = ap (place_of m.checkpoints) (part_at at i 32 log) ∙ found_at (at + i) log h e
+module _ {m : Model} {names : List ℕ} {n : ℕ} (at i : ℕ) (log : List ℕ) (held : NamesHeld m names n) where
+  abbrev first : ℕ
+  first = first_index (λ x. same_bytes x (part (at + i) 32 log)) (rows n names)
 
-  pub held-name : NamesHeld m names n → r ≡ first_index (λ x. same_bytes x (part (at + i) 32 log)) (rows n names)
-      → name_held m (part i 32 (drop at log)) ≡ ltb r n
-  held-name h e = ap (name_held m) (part_at at i 32 log) ∙ held_at (at + i) log h e
+  pub found_name : {r : ℕ} → r ≡ first → place_of m.checkpoints (part i 32 (drop at log)) ≡ r
+  found_name e = ap (place_of m.checkpoints) (part_at at i 32 log) ∙ found_at (at + i) log held e
+
+  pub held-name : (r : Option ℕ) → MatchOption r (first ≡ n) (λ j. (j ≡ first) × (j < n)) → name_held m (part i 32 (drop at log)) ≡ is_some r
+  held-name r h = ap (name_held m) (part_at at i 32 log) ∙ name-found (at + i) log held r h
 
 -- a checkpoint that is taken: its parent's place as found, and one more than the height held there
 pub checkpoint-taken : (m : Model) (name parent : List ℕ) {p h : ℕ}

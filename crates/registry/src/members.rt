@@ -9,19 +9,15 @@ ghost use Rattle.registry.specs.Decision.{decision_of};
 
 use crate::Decision;
 use model::{MAX_BOND, MAX_MEMBERS, Refusal};
+use state::Witness;
+use tables::find_id;
 
 // Rows 10 to 13, on the member record at `at`; `fixed` is row 10's condition.
-pub fn decide_member(
-    ids: &[u16],
-    count: usize,
-    fixed: bool,
-    log: &[u8],
-    at: usize,
-) -> Result<Decision, Refusal>
-    requires { (count ≤ length ids.now) × (at + 11 ≤ length log.now) }
+pub fn decide_member(w: &Witness, fixed: bool, log: &[u8], at: usize) -> Result<Decision, Refusal>
+    requires { (w.now.member_count ≤ length w.now.ids) × (at + 11 ≤ length log.now) }
     ensures { (m : Model)
         → members_fixed m ≡ fixed
-        → MembersHeld m ids.now count
+        → MembersHeld m w.now.ids w.now.member_count
         → let s = drop at log.now in
         decision_of m s result ≡ single (decide_member m (record { id = field 1 2 s; bond = field 3 8 s })) }
 {
@@ -29,17 +25,14 @@ pub fn decide_member(
         return Err(Refusal::MembersFixed);
     }
     let bond = wire::be64(log, at + 3);
-    if bond == 0 {
-        return Err(Refusal::BondOutOfRange);
-    }
-    if MAX_BOND < bond {
+    if bond == 0 || MAX_BOND < bond {
         return Err(Refusal::BondOutOfRange);
     }
     let id = wire::be16(log, at + 1);
-    if tables::find_id(ids, count, id) < count {
+    if find_id(&w.ids[..w.member_count], id).is_some() {
         return Err(Refusal::IdHeld);
     }
-    if MAX_MEMBERS <= count {
+    if MAX_MEMBERS <= w.member_count {
         return Err(Refusal::MembersFull);
     }
     Ok(Decision::Member(id, bond))

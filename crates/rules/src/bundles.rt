@@ -1,50 +1,39 @@
 // What is decided on a bundle of votes.
-ghost use Rattle.std.specs.Prelude.{◌≡◌, ◌+◌, ◌*◌, ◌≤◌, length, drop};
+ghost use Rattle.std.specs.Prelude.{◌≡◌, ◌+◌, ◌≤◌, length, drop};
 ghost use Rattle.model.specs.Bytes.{field, part};
 ghost use Rattle.model.specs.Change.{whole};
 ghost use Rattle.model.specs.Decide.{decide_bundle};
-ghost use Rattle.model.specs.Limits.{checkpoint_limit};
 ghost use Rattle.model.specs.Model.{Model};
-ghost use Rattle.tables.specs.Places.{Falling};
 ghost use Rattle.state.specs.Tables.{NamesHeld, HeightsHeld, AncestorsHeld};
+ghost use Rattle.ballots.specs.Fit.{FitTree};
 ghost use Rattle.registry.specs.Decision.{decision_of};
 ghost use Rattle.rules.specs.Decision.{BitsFit};
 
 use ballots::links::link_of;
-use model::{Height, MAX_CHECKPOINTS, Place, Refusal};
+use model::Refusal;
 use registry::Decision;
-use state::Counts;
+use state::Witness;
 
 // Rows 61 and 62, on the bundle at `at`; then 31 to 34, which are the same for all its votes.
-pub fn decide_bundle<'a>(
-    counts: Counts,
-    names: &'a [u8],
-    parents: [Place; MAX_CHECKPOINTS],
-    heights: [Height; MAX_CHECKPOINTS],
-    log: &[u8],
-    at: usize,
-) -> Result<Decision, Refusal>
-    requires { (32 * counts.checkpoints ≤ length names.now)
-        × (counts.checkpoints ≤ checkpoint_limit)
-        × Falling counts.checkpoints parents
-        × (at + 89 ≤ length log.now) }
+pub fn decide_bundle(w: &Witness, log: &[u8], at: usize) -> Result<Decision, Refusal>
+    requires { FitTree w.now × (at + 89 ≤ length log.now) }
     ensures result_value { (m : Model)
-        → length m.members ≡ counts.members
-        → NamesHeld m names.now counts.checkpoints
-        → HeightsHeld m heights counts.checkpoints
-        → AncestorsHeld m parents counts.checkpoints
+        → length m.members ≡ w.now.member_count
+        → NamesHeld m w.now.names w.now.checkpoint_count
+        → HeightsHeld m w.now.heights w.now.checkpoint_count
+        → AncestorsHeld m w.now.parents w.now.checkpoint_count
         → let s = drop at log.now in
         decision_of m s result
         ≡ whole (decide_bundle m (part 1 16 s) (part 17 32 s) (part 49 32 s) (field 81 4 s) (field 85 4 s)) }
-    ensures bits_fit { BitsFit counts.members (drop at log.now) result }
+    ensures bits_fit { BitsFit w.now.member_count (drop at log.now) result }
 {
-    if bits::any_from(log, at + 1, counts.members) {
+    if bits::any_from(log, at + 1, w.member_count) {
         return Err(Refusal::BitWithoutMember);
     }
     let votes = bits::number(log, at + 1);
     if votes == 0 {
         return Err(Refusal::NoBitSet);
     }
-    let link = link_of(names, parents, heights, counts.checkpoints, log, at + 17);
+    let link = link_of(w, log, at + 17);
     Ok(Decision::Bundle(votes, link))
 }

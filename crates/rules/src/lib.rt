@@ -2,9 +2,10 @@
 // checkpoint and a quorum is in crate `registry`, and on a link and one vote for it in crate `ballots`.
 #![tactic(auto)]
 
-ghost use Rattle.std.specs.Prelude.{◌≡◌, ℕ, List, drop};
-ghost use Rattle.model.specs.Decide.{decide};
+ghost use Rattle.std.specs.Prelude.{◌≡◌, ◌<◌, ℕ, List, drop};
+ghost use Rattle.model.specs.Decide.{members_fixed, decide};
 ghost use Rattle.model.specs.Model.{Model};
+ghost use Rattle.search.specs.declared.Links.{Links};
 ghost use Rattle.state.specs.Reading.{outcome_of, brief};
 ghost use Rattle.state.specs.State.{rule_of, quota_in};
 ghost use Rattle.state.specs.Tables.{Held};
@@ -12,9 +13,11 @@ ghost use Rattle.ballots.specs.Fit.{Fit};
 ghost use Rattle.registry.specs.Decision.{decision_of};
 ghost use Rattle.rules.specs.Decision.{BitsFit};
 
-use model::{Height, MAX_CHECKPOINTS, Place, Refusal};
+use model::Refusal;
 use registry::{Decision, checkpoints, members, quorums};
-use state::{Counts, Numbers, Outcome, Passed};
+use search::Links;
+use state::{Outcome, Passed, Witness};
+use wire::records::Kind;
 
 pub mod bundles;
 pub mod votes;
@@ -33,46 +36,40 @@ pub fn outcome_of(decision: Result<Decision, Refusal>) -> Outcome
     })
 }
 
-// The record at `at`: row 4 where the kind is unknown (its size is 0, so it is never cut), row 5 where the log ends
-// before the record does, then the rows of the kind. The arrays are those of a sound witness; the votes come as numbers
-// in chains, so that one is looked for among few.
-pub fn decide_record<'a>(
-    counts: Counts,
-    numbers: Numbers,
-    ids: &'a [u16],
-    names: &'a [u8],
-    parents: [Place; MAX_CHECKPOINTS],
-    heights: [Height; MAX_CHECKPOINTS],
-    keys: &'a [u64],
-    heads: &'a [u16],
-    nexts: &'a [u16],
-    log: &[u8],
-    at: usize,
-) -> Result<Decision, Refusal>
-    requires { Fit counts ids.now names.now parents heights keys.now heads.now nexts.now }
+// Row 10's condition: a vote is held, or a checkpoint beside the root, or the root stands above height 0.
+fn members_fixed(w: &Witness) -> bool
+    requires { 0 < w.now.checkpoint_count }
+    ensures { (m : Model) (links : Links) → Held m w.now links → members_fixed m ≡ result }
+{
+    (0 < w.vote_count) | (1 < w.checkpoint_count) | (0 < w.heights[0].0)
+}
+
+// The record at `at`: row 4 where the kind is unknown (it has no size then, so it is never cut), row 5 where the log
+// ends before the record does, then the rows of the kind. The witness is a sound one; its votes come as numbers in
+// chains too, so that one is looked for among few.
+pub fn decide_record(w: &Witness, links: &Links, log: &[u8], at: usize) -> Result<Decision, Refusal>
+    requires { Fit w.now links.now }
     ensures { (m : Model)
-        → m.rule ≡ rule_of (quota_in numbers)
-        → Held m counts ids.now names.now parents heights keys.now
+        → m.rule ≡ rule_of (quota_in w.now.numbers)
+        → Held m w.now links.now
         → let s = drop at log.now in
-        (decision_of m s result ≡ decide m s) × BitsFit counts.members s result }
+        (decision_of m s result ≡ decide m s) × BitsFit w.now.member_count s result }
 {
     if log.len() <= at {
         return Ok(Decision::Nothing);
     }
-    let kind = log[at];
-    if log.len() - at < wire::records::record_size(kind) {
+    let Ok(kind) = Kind::try_from(log[at]) else {
+        return Err(Refusal::UnknownKind);
+    };
+    if log.len() - at < kind.size() {
         return Err(Refusal::CutRecord);
     }
-    let root = heights[0];
-    let fixed = (0 < counts.votes) | (1 < counts.checkpoints) | (0 < root.0);
+    let fixed = members_fixed(w);
     match kind {
-        1 => members::decide_member(ids, counts.members, fixed, log, at),
-        2 => checkpoints::decide_checkpoint(names, heights, counts.checkpoints, log, at),
-        3 => votes::decide_vote(
-            counts, ids, names, parents, heights, keys, heads, nexts, log, at,
-        ),
-        4 => quorums::decide_quorum(numbers, fixed, log, at),
-        5 => bundles::decide_bundle(counts, names, parents, heights, log, at),
-        0 | 6..=255 => Err(Refusal::UnknownKind),
+        Kind::Member => members::decide_member(w, fixed, log, at),
+        Kind::Checkpoint => checkpoints::decide_checkpoint(w, log, at),
+        Kind::Vote => votes::decide_vote(w, links, log, at),
+        Kind::Quorum => quorums::decide_quorum(w.numbers, fixed, log, at),
+        Kind::Bundle => bundles::decide_bundle(w, log, at),
     }
 }

@@ -9,34 +9,21 @@ ghost use Rattle.ballots.specs.Fit.{Fit};
 ghost use Rattle.registry.specs.Decision.{decision_of};
 
 use ballots::votes::{room, vote_of};
-use model::{Height, MAX_CHECKPOINTS, Place, Refusal};
+use model::Refusal;
 use registry::Decision;
-use state::Counts;
+use search::Links;
+use state::Witness;
 
 // Rows 30 to 36, on the vote record at `at`.
-pub fn decide_vote<'a>(
-    counts: Counts,
-    ids: &'a [u16],
-    names: &'a [u8],
-    parents: [Place; MAX_CHECKPOINTS],
-    heights: [Height; MAX_CHECKPOINTS],
-    keys: &'a [u64],
-    heads: &'a [u16],
-    nexts: &'a [u16],
-    log: &[u8],
-    at: usize,
-) -> Result<Decision, Refusal>
-    requires { Fit counts ids.now names.now parents heights keys.now heads.now nexts.now
-        × (at + 75 ≤ length log.now) }
+pub fn decide_vote(w: &Witness, links: &Links, log: &[u8], at: usize) -> Result<Decision, Refusal>
+    requires { Fit w.now links.now × (at + 75 ≤ length log.now) }
     ensures { (m : Model)
-        → Held m counts ids.now names.now parents heights keys.now
+        → Held m w.now links.now
         → let s = drop at log.now in
         decision_of m s result
         ≡ single (decide_vote m (field 1 2 s) (part 3 32 s) (part 35 32 s) (field 67 4 s) (field 71 4 s)) }
 {
-    let passed = vote_of(
-        counts, ids, names, parents, heights, keys, heads, nexts, log, at,
-    )?;
-    let ballot = room(passed, counts.votes)?;
+    let passed = vote_of(w, links, log, at)?;
+    let ballot = room(w, passed)?;
     Ok(Decision::Vote(ballot))
 }

@@ -3,11 +3,10 @@
 // batches, whole, and asked.
 #![tactic(auto)]
 
-use answers::{ConflictAnswer, StatusAnswer, SupportAnswer};
-use checker::CheckAnswer;
-use model::{Place, Refusal, Status, WriteAnswer};
-use reader::{Batch, End};
-use state::{Outcome, Witness};
+use model::{Place, Refusal, Status};
+use reader::Batch;
+use state::{Outcome, Passed, Witness};
+use std::io;
 
 const LOG: [u8; 1005] = [
     70, 70, 87, 0, 1, 82, 82, 82, 82, 82, 82, 82, 82, 82, 82, 82, 82, 82, 82, 82, 82, 82, 82, 82,
@@ -53,258 +52,162 @@ const LOG: [u8; 1005] = [
     68, 68, 68, 68, 68, 68, 68, 68, 68, 68, 68, 68, 68, 0, 0, 0, 1, 0, 0, 0, 2,
 ];
 
-// Some bytes, and a number, to standard output. Where they cannot be written, the stored output is not met.
-fn say(rt: HostRuntime, words: &[u8]) {
-    let _ = rt.write_all(words);
+fn print_refused(rt: HostRuntime, r: Refusal) -> io::Result<()> {
+    println!(rt; "refused {}", u8::from(r))
 }
 
-fn say_number(rt: HostRuntime, n: u64) {
-    let _ = rt.print(n);
-}
-
-fn say_refused(rt: HostRuntime, r: Refusal) {
-    say(rt, b"refused ");
-    say_number(rt, refusals::refusal_number(r) as u64);
-    say(rt, b"\n");
-}
-
-// What a reading came to; whether nothing was left.
-fn say_reading(rt: HostRuntime, k: u64, o: Outcome) -> bool {
-    say(rt, b"record ");
-    say_number(rt, k);
-    say(rt, b" ");
-    say_outcome(rt, o)
-}
-
-fn say_outcome(rt: HostRuntime, o: Outcome) -> bool {
-    match o {
-        Outcome::Nothing => {
-            say(rt, b"nothing left\n");
-            true
-        }
-        Outcome::Taken => {
-            say(rt, b"taken\n");
-            false
-        }
-        Outcome::Bundled(n) => {
-            say(rt, b"bundle of ");
-            say_number(rt, n as u64);
-            say(rt, b"\n");
-            false
-        }
-        Outcome::Refused(r) => {
-            say_refused(rt, r);
-            false
-        }
+fn print_outcome(rt: HostRuntime, outcome: Outcome) -> io::Result<()> {
+    match outcome {
+        Ok(Passed::Nothing) => println!(rt; "nothing left"),
+        Ok(Passed::Taken) => println!(rt; "taken"),
+        Ok(Passed::Bundled(n)) => println!(rt; "bundle of {n}"),
+        Err(r) => print_refused(rt, r),
     }
 }
 
-// Every record of the log from an offset on; at most 64.
-fn read_all(rt: HostRuntime, w: Witness, log: &[u8]) -> Witness {
-    let mut w = w;
-    let mut at: usize = 37;
-    let mut k: u64 = 0;
-    while k < 64 {
+fn print_reading(rt: HostRuntime, k: u64, outcome: Outcome) -> io::Result<()> {
+    print!(rt; "record {k} ")?;
+    print_outcome(rt, outcome)
+}
+
+// Every record of the log after its header, at most 64; the witness that they leave.
+fn read_all(rt: HostRuntime, begun: Witness, log: &[u8]) -> io::Result<Witness> {
+    let mut w = begun;
+    let mut at = 37;
+    for k in 0..64 {
         let r = witness::read(w, log, at);
         w = r.witness;
         at = r.next;
-        let outcome = r.outcome;
-        if say_reading(rt, k, outcome) {
-            return w;
+        print_reading(rt, k, r.outcome)?;
+        if r.outcome == Ok(Passed::Nothing) {
+            break;
         }
-        k += 1;
     }
-    w
+    Ok(w)
 }
 
-fn say_standing(rt: HostRuntime, a: StatusAnswer) {
-    match a {
-        StatusAnswer::Is(s) => match s {
-            Status::Plain => {
-                say(rt, b"plain\n");
-            }
-            Status::Justified => {
-                say(rt, b"justified\n");
-            }
-            Status::Final => {
-                say(rt, b"final\n");
-            }
-        },
-        StatusAnswer::Refused(r) => say_refused(rt, r),
+fn print_status(rt: HostRuntime, answer: Result<Status, Refusal>) -> io::Result<()> {
+    match answer {
+        Ok(Status::Plain) => println!(rt; "plain"),
+        Ok(Status::Justified) => println!(rt; "justified"),
+        Ok(Status::Final) => println!(rt; "final"),
+        Err(r) => print_refused(rt, r),
     }
 }
 
-fn say_status(rt: HostRuntime, w: Witness, p: u16) {
-    say_standing(rt, answers::status(w, Place(p)));
+fn yes_no(b: bool) -> &'static str {
+    if b { "yes" } else { "no" }
 }
 
-fn say_support(rt: HostRuntime, w: Witness, s: u16, t: u16) {
+fn print_support(rt: HostRuntime, w: Witness, s: u16, t: u16) -> io::Result<()> {
     match answers::support(w, Place(s), Place(t)) {
-        SupportAnswer::Is(b) => {
-            say_number(rt, b.number as u64);
-            say(rt, b" members, bonds ");
-            say_number(rt, b.bonds);
-            if b.quorum {
-                say(rt, b" yes\n");
-            } else {
-                say(rt, b" no\n");
-            }
-        }
-        SupportAnswer::Refused(r) => say_refused(rt, r),
+        Ok(b) => println!(rt; "{} members, bonds {} {}", b.number, b.bonds, yes_no(b.quorum)),
+        Err(r) => print_refused(rt, r),
     }
 }
 
-fn say_conflict(rt: HostRuntime, a: ConflictAnswer) {
-    match a {
-        ConflictAnswer::Is(b) => {
-            if b {
-                say(rt, b"conflict yes\n");
-            } else {
-                say(rt, b"conflict no\n");
-            }
-        }
-        ConflictAnswer::Refused(r) => say_refused(rt, r),
+fn print_conflict(rt: HostRuntime, answer: Result<bool, Refusal>) -> io::Result<()> {
+    match answer {
+        Ok(b) => println!(rt; "conflict {}", yes_no(b)),
+        Err(r) => print_refused(rt, r),
     }
 }
 
-fn wide(x: u8) -> u64 {
-    x as u64
-}
-
-fn say_bytes(rt: HostRuntime, s: &[u8]) {
-    let mut i: usize = 0;
-    while i < s.len() {
-        say(rt, b" ");
-        say_number(rt, wide(s[i]));
-        i += 1;
+fn print_bytes(rt: HostRuntime, bytes: &[u8]) -> io::Result<()> {
+    for b in bytes {
+        print!(rt; " {b}")?;
     }
+    Ok(())
 }
 
-fn say_sum(rt: HostRuntime, a: CheckAnswer) {
-    match a {
-        CheckAnswer::Sum(n) => {
-            say(rt, b"sum ");
-            say_number(rt, n);
-            say(rt, b"\n");
-        }
-        CheckAnswer::Refused(r) => say_refused(rt, r),
+fn print_sum(rt: HostRuntime, answer: Result<u64, Refusal>) -> io::Result<()> {
+    match answer {
+        Ok(n) => println!(rt; "sum {n}"),
+        Err(r) => print_refused(rt, r),
     }
 }
 
 // The answer of a call that writes our list, and the whole buffer.
-fn say_written(rt: HostRuntime, a: WriteAnswer, buf: &[u8]) {
-    match a {
-        WriteAnswer::Length(n) => {
-            say_number(rt, n as u64);
-        }
-        WriteAnswer::Refused(r) => say_refused(rt, r),
+fn print_written(rt: HostRuntime, answer: Result<usize, Refusal>, buf: &[u8]) -> io::Result<()> {
+    match answer {
+        Ok(n) => print!(rt; "{n}")?,
+        Err(r) => print_refused(rt, r)?,
     }
-    say_bytes(rt, buf);
-    say(rt, b"\n");
+    print_bytes(rt, buf)?;
+    println!(rt; "")
 }
 
-// What the checker says of the first 13 bytes.
-fn say_check(rt: HostRuntime, w: Witness, s: &[u8]) {
-    if s.len() < 13 {
-        return;
-    }
-    say_sum(rt, answers::check_list(w, &s[..13]));
-}
-
-// Our list in a buffer of 16 bytes, whole, and what the checker says of it.
-fn say_list(rt: HostRuntime, w: Witness) {
-    let mut buf = [255u8; 16];
+// Our list in a buffer of 16 bytes, whole, and what the checker says of its first 13.
+fn print_list(rt: HostRuntime, w: Witness) -> io::Result<()> {
+    let mut buf = [255; 16];
     let answer = answers::write_list(w, &mut buf);
-    say_written(rt, answer, &buf);
-    say_check(rt, w, &buf);
-}
-
-// The first ten of some bytes.
-fn say_first(rt: HostRuntime, bytes: &[u8]) {
-    if bytes.len() < 10 {
-        return;
-    }
-    say_bytes(rt, &bytes[..10]);
+    print_written(rt, answer, &buf)?;
+    print_sum(rt, answers::check_list(w, &buf[..13]))
 }
 
 // A batch of at most ten records: how many were passed, the first ten entries, and why there were no more.
-fn say_batch(rt: HostRuntime, w: Witness, log: &[u8], at: usize) -> Batch {
-    let mut rows = [255u8; 256];
+fn print_batch(rt: HostRuntime, w: Witness, log: &[u8], at: usize) -> io::Result<Batch> {
+    let mut rows = [255; 256];
     let batch = witness::read_many(w, log, at, 10, &mut rows);
-    say_number(rt, batch.records);
-    say(rt, b" records:");
-    say_first(rt, &rows);
-    say(rt, b"; ");
-    let end = batch.end;
-    match end {
-        End::Spent => {
-            say(rt, b"no more were asked for\n");
-        }
-        End::EndedBy(o) => {
-            say_outcome(rt, o);
-        }
+    print!(rt; "{} records:", batch.records)?;
+    print_bytes(rt, &rows[..10])?;
+    print!(rt; "; ")?;
+    match batch.end {
+        None => println!(rt; "no more were asked for")?,
+        Some(outcome) => print_outcome(rt, outcome)?,
     }
-    batch
+    Ok(batch)
 }
 
-// The log in batches.
-fn say_batches(rt: HostRuntime, w: Witness, log: &[u8]) {
-    let first = say_batch(rt, w, log, 37);
-    let second = say_batch(rt, first.witness, log, first.next);
-    say_conflict(rt, answers::conflict(second.witness));
-}
-
-// Its first 50 bytes, of which the last two are a cut record.
-fn say_cut(rt: HostRuntime, w: Witness, log: &[u8]) {
-    if log.len() < 50 {
-        return;
-    }
-    say_batch(rt, w, &log[..50], 37);
+// The log in batches; then its first 50 bytes, of which the last two are a cut record.
+fn print_batches(rt: HostRuntime, w: Witness) -> io::Result<()> {
+    let first = print_batch(rt, w, &LOG, 37)?;
+    let second = print_batch(rt, first.witness, &LOG, first.next)?;
+    print_conflict(rt, answers::conflict(second.witness))?;
+    print_batch(rt, w, &LOG[..50], 37)?;
+    Ok(())
 }
 
 // What the log answers after so many of its records: on place 4, on our list, and on the list of document 01.
-fn say_asked(rt: HostRuntime, log: &[u8], limit: u64) {
-    let list = [70u8, 70, 80, 0, 1, 0, 1, 0, 2, 0, 1, 0, 4];
-    let mut buf = [255u8; 16];
+fn print_asked(rt: HostRuntime, log: &[u8], limit: u64) -> io::Result<()> {
+    let list = [70, 70, 80, 0, 1, 0, 1, 0, 2, 0, 1, 0, 4];
+    let mut buf = [255; 16];
     let answers = ask::ask(blank::blank(), log, limit, Place(4), &list, &mut buf);
-    let last = answers.last;
-    let status = answers.status;
-    let conflict = answers.conflict;
-    let ours = answers.ours;
-    let theirs = answers.theirs;
-    say_reading(rt, answers.records, last);
-    say_standing(rt, status);
-    say_conflict(rt, conflict);
-    say_written(rt, ours, &buf);
-    say_sum(rt, theirs);
+    print_reading(rt, answers.records, answers.last)?;
+    print_status(rt, answers.status)?;
+    print_conflict(rt, answers.conflict)?;
+    print_written(rt, answers.ours, &buf)?;
+    print_sum(rt, answers.theirs)
+}
+
+// The standings of the places, and the support of five links.
+fn print_standings(rt: HostRuntime, w: Witness) -> io::Result<()> {
+    for p in 0..6 {
+        print_status(rt, answers::status(w, Place(p)))?;
+    }
+    for (s, t) in [(0, 1), (1, 3), (0, 2), (2, 4), (1, 2)] {
+        print_support(rt, w, s, t)?;
+    }
+    Ok(())
+}
+
+fn print_session(rt: HostRuntime) -> io::Result<()> {
+    let begun = witness::begin(blank::blank(), &LOG).witness;
+    let w = read_all(rt, begun, &LOG)?;
+    print_standings(rt, w)?;
+    print_conflict(rt, answers::conflict(w))?;
+    print_list(rt, w)?;
+    let read = replay::replay(blank::blank(), &LOG, 64).read;
+    print_reading(rt, read.records, read.last)?;
+    print_conflict(rt, answers::conflict(read.witness))?;
+    print_list(rt, read.witness)?;
+    print_batches(rt, begun)?;
+    print_asked(rt, &LOG, 64)?;
+    print_asked(rt, &LOG, 12)?;
+    print_asked(rt, &LOG[..36], 64)
 }
 
 fn main(rt: HostRuntime) {
-    let begun = witness::begin(blank::blank(), &LOG);
-    let w = read_all(rt, begun.witness, &LOG);
-    say_status(rt, w, 0);
-    say_status(rt, w, 1);
-    say_status(rt, w, 2);
-    say_status(rt, w, 3);
-    say_status(rt, w, 4);
-    say_status(rt, w, 5);
-    say_support(rt, w, 0, 1);
-    say_support(rt, w, 1, 3);
-    say_support(rt, w, 0, 2);
-    say_support(rt, w, 2, 4);
-    say_support(rt, w, 1, 2);
-    say_conflict(rt, answers::conflict(w));
-    say_list(rt, w);
-    let replayed = replay::replay(blank::blank(), &LOG, 64);
-    let read = replayed.read;
-    let last = read.last;
-    let whole = read.witness;
-    say_reading(rt, read.records, last);
-    say_conflict(rt, answers::conflict(whole));
-    say_list(rt, whole);
-    say_batches(rt, begun.witness, &LOG);
-    say_cut(rt, begun.witness, &LOG);
-    say_asked(rt, &LOG, 64);
-    say_asked(rt, &LOG, 12);
-    say_asked(rt, &LOG[..36], 64);
+    // Where the answers cannot be printed, the stored output is not met.
+    let _ = print_session(rt);
 }

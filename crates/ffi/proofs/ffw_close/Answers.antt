@@ -2,4 +2,4 @@
 use Rattle.ffi.proofs.ffw_close.Goals as goal
 
 pub returns : goal.returns
-returns c = c.in_numbers.ensures _ _ _ _ c.close.ensures
+returns c = c.from.ensures _ _ _ _ c.close.ensures

@@ -1,14 +1,9 @@
 use Prim.Native.Nat.{ℕ, ◌+◌, ◌-◌, ◌<◌}
-use mathlib.Core.Path.{◌≡◌, refl, sym, ap, ◌∙◌, subst}
+use mathlib.Core.Path.{◌≡◌, refl, ap, ◌∙◌, subst}
 use native.Mathlib.Omega.{arith}
-use borrow.Author.Tests.{ltb-true, ltb-false, lt-ltb}
-use mathlib.Core.Bool.{Bool, ◌&&◌}
-use mathlib.Core.Logic.{⊎_elim}
-use lib.Dec.{ltb}
 use lib.ListN.{length, drop, length-append, length-drop}
 use Rattle.model.specs.Answer.{answer}
 use Rattle.model.specs.Change.{nothing_left}
-use Rattle.model.proofs.Lists.{and_left, and_right, lt_or_ge}
 use Rattle.state.specs.Reading.{brief, rows_of_votes}
 use Rattle.entries.specs.Entries.{entries}
 use Rattle.reader.specs.Many.{read_many, IsBatch}
@@ -25,13 +20,6 @@ loop-at-init c =
     let a = c.args in
     (record { told = answer nothing_left; so = none_read a.limit a.log.now (answer nothing_left) a.w a.from c.requires; last-is = refl; votes_are = refl }, refl)
 
--- the loop's test
-inside : (c : In-loop-at) → c.loop-at.at < length c.args.log.now
-inside c = ltb-true _ _ (and_left _ _ c.loop-at-test.true)
-
-below : (c : In-loop-at) → c.loop-at.records < c.args.limit
-below c = ltb-true _ _ (and_right (ltb c.loop-at.at (length c.args.log.now)) _ c.loop-at-test.true)
-
 -- the call, after what was read before it
 call : (c : After-read_from-r)
     → let i = (goal.at.After-read_from-r c).In-loop-at in
@@ -45,7 +33,7 @@ call c =
     record {
       so = l.invariant.0.so;
       bytes = λ j h. (c.shared_slice_known-1.given j).fits;
-      below = below (goal.at.After-read_from-r c).In-loop-at;
+      below = c.if-records-limit.true;
       roomy = omega arith;
       is = subst (λ (n : ℕ). IsBatch (read_many (a.limit - l.records) n l.held a.log.now l.at) l.rows c.read_from-r.result c.read_from-r.new.rows) l.invariant.1 c.read_from-r.ensures;
     }
@@ -59,15 +47,6 @@ rows_long c =
     ∙ length-append es (drop (length es) l.rows)
     ∙ omega (arith, length-drop (length es) l.rows, (many-ends a.log.now (a.limit - l.records) 1024 l.held l.at).short, l.invariant.1)
 
-pub overflow_sub-limit : goal.overflow_sub-limit
-overflow_sub-limit c = omega (arith, c.loop-at.invariant.0.so.few)
-
-pub slice_bounds-read_from-end : goal.slice_bounds-read_from-end
-slice_bounds-read_from-end c = sym c.loop-at.invariant.1
-
-pub read_from-r-requires : goal.read_from-r-requires
-read_from-r-requires c = c.loop-at.invariant.0.so.sound
-
 pub last_votes-votes-requires : goal.last_votes-votes-requires
 last_votes-votes-requires c =
     let l = c.loop-at in
@@ -75,15 +54,15 @@ last_votes-votes-requires c =
     votes-fit (a.limit - l.records) 1024 l.held a.log.now l.at (call (goal.at.last_votes-votes-requires c).After-read_from-r).is
 
 pub overflow_add-records : goal.overflow_add-records
-overflow_add-records c = omega (arith, few-read (call (goal.at.overflow_add-records c).After-read_from-r), below (goal.at.overflow_add-records c).In-loop-at, c.ranges.limit)
+overflow_add-records c = omega (arith, few-read (call (goal.at.overflow_add-records c).After-read_from-r), c.if-records-limit.true, c.ranges.limit)
 
 pub overflow_add-result : goal.overflow_add-result
 overflow_add-result c =
-    omega (arith, one_more (call (goal.at.overflow_add-result c).After-read_from-r) _ c.in-EndedBy.is, c.ranges.limit)
+    omega (arith, one_more (call (goal.at.overflow_add-result c).After-read_from-r) _ c.in-Some.is, c.ranges.limit)
 
 pub returns-then-at-log : goal.returns-then-at-log
 returns-then-at-log c =
-    stopped (call (goal.at.returns-then-at-log c).After-read_from-r) _ c.in-EndedBy.is c.if-at-log.true
+    stopped (call (goal.at.returns-then-at-log c).After-read_from-r) _ c.in-Some.is c.if-at-log.true
 
 -- a batch that did not end the reading passed some, and the last of them told what the code has
 went_on : (c : After-last_votes-votes) → let r = c.before.before.before.before in
@@ -106,28 +85,24 @@ went_on c some =
 
 pub loop-at-smaller-else-at-log : goal.loop-at-smaller-else-at-log
 loop-at-smaller-else-at-log c =
-    omega (arith, each-passed (call (goal.at.loop-at-smaller-else-at-log c).After-read_from-r), passed_then (call (goal.at.loop-at-smaller-else-at-log c).After-read_from-r) _ c.in-EndedBy.is (inside (goal.at.loop-at-smaller-else-at-log c).In-loop-at) c.if-at-log.false, inside (goal.at.loop-at-smaller-else-at-log c).In-loop-at)
+    omega (arith, each-passed (call (goal.at.loop-at-smaller-else-at-log c).After-read_from-r), passed_then (call (goal.at.loop-at-smaller-else-at-log c).After-read_from-r) _ c.in-Some.is c.loop-at-test.true c.if-at-log.false, c.loop-at-test.true)
 
 pub loop-at-preserved-else-at-log : goal.loop-at-preserved-else-at-log
 loop-at-preserved-else-at-log c =
     let v = c.before.before.before.before.before in
-    (went_on (goal.at.loop-at-preserved-else-at-log c).After-last_votes-votes (passed_then (call (goal.at.loop-at-preserved-else-at-log c).After-read_from-r) _ c.in-EndedBy.is (inside (goal.at.loop-at-preserved-else-at-log c).In-loop-at) c.if-at-log.false), rows_long (goal.at.loop-at-preserved-else-at-log c).After-read_from-r)
+    (went_on (goal.at.loop-at-preserved-else-at-log c).After-last_votes-votes (passed_then (call (goal.at.loop-at-preserved-else-at-log c).After-read_from-r) _ c.in-Some.is c.loop-at-test.true c.if-at-log.false), rows_long (goal.at.loop-at-preserved-else-at-log c).After-read_from-r)
 
 pub loop-at-smaller : goal.loop-at-smaller
 loop-at-smaller c =
-    omega (arith, each-passed (call (goal.at.loop-at-smaller c).After-read_from-r), passed-some (call (goal.at.loop-at-smaller c).After-read_from-r) c.in-Spent.is, inside (goal.at.loop-at-smaller c).In-loop-at)
+    omega (arith, each-passed (call (goal.at.loop-at-smaller c).After-read_from-r), passed-some (call (goal.at.loop-at-smaller c).After-read_from-r) c.in_default.is, c.loop-at-test.true)
 
 pub loop-at-preserved : goal.loop-at-preserved
 loop-at-preserved c =
     let v = c.before.before.before in
-    (went_on (goal.at.loop-at-preserved c).After-last_votes-votes (passed-some (call (goal.at.loop-at-preserved c).After-read_from-r) c.in-Spent.is), rows_long (goal.at.loop-at-preserved c).After-read_from-r)
+    (went_on (goal.at.loop-at-preserved c).After-last_votes-votes (passed-some (call (goal.at.loop-at-preserved c).After-read_from-r) c.in_default.is), rows_long (goal.at.loop-at-preserved c).After-read_from-r)
 
-pub returns : goal.returns
-returns c =
-    let l = c.loop-at in
-    let a = c.args in
-    held_all l.invariant.0
-    (⊎_elim
-    (λ h. limit_met l.invariant.0.so (ltb-false l.records a.limit (sym (ap (λ (b : Bool). b && ltb l.records a.limit) (lt-ltb l.at (length a.log.now) h)) ∙ c.loop-at-test.false)))
-    (λ h. log-ended l.invariant.0.so h)
-    (lt_or_ge l.at (length a.log.now)))
+pub returns-else-records-limit : goal.returns-else-records-limit
+returns-else-records-limit c = held_all c.loop-at.invariant.0 (limit_met c.loop-at.invariant.0.so c.if-records-limit.false)
+
+pub returns-after-loop-at : goal.returns-after-loop-at
+returns-after-loop-at c = held_all c.loop-at.invariant.0 (log-ended c.loop-at.invariant.0.so c.loop-at-test.false)

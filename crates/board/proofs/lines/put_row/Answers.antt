@@ -19,19 +19,19 @@ after-place c =
 
 after-height : (c : After-put_field-two) → c.put_field-two.result + 46 ≤ length c.put_field-two.new.buf
 after-height c =
-    let h = c.args.h.0 in
+    let h = c.args.row.now.height.0 in
     let put = c.put_field-two.ensures in
     omega (arith, after-place (goal.at.After-put_field-two c).After-put_field-one, put.past, kept put, field_wide 10 h (decimal-few 9 h (omega arith)))
 
 after-standing : (c : After-put_standing-three) → c.put_standing-three.result + 32 ≤ length c.put_standing-three.new.buf
 after-standing c =
-    let s = c.args.s in
+    let s = c.args.row.now.status in
     let put = c.put_standing-three.ensures in
     omega (arith, after-height (goal.at.After-put_standing-three c).After-put_field-two, put.past, kept put, standing_wide s)
 
 after-number : (c : After-put_field-four) → c.put_field-four.result + 25 ≤ length c.put_field-four.new.buf
 after-number c =
-    let n = c.args.number in
+    let n = c.args.row.now.number in
     let put = c.put_field-four.ensures in
     let wide = field_wide 5 n (decimal-few 4 n (omega arith)) in
     omega (arith, after-standing (goal.at.After-put_field-four c).After-put_standing-three, put.past, kept put, wide)
@@ -54,7 +54,7 @@ put_right-five-requires c = (decimal-few 23 _ (omega arith), omega (arith, after
 
 pub put-requires : goal.put-requires
 put-requires c =
-    let bonds = c.args.bonds in
+    let bonds = c.args.row.now.bonds in
     let put = c.put_right-five.ensures in
     let wide = right-long 24 (decimal bonds) (decimal-few 23 bonds (omega arith)) in
     omega (arith, after-number (goal.at.put-requires c).After-put_field-four, put.past, kept put, wide)
@@ -63,7 +63,8 @@ pub returns : goal.returns
 unfolding newline
 returns c =
     let a = c.args in
-    let row = spelled
+    let row = a.row.now in
+    let all = spelled
     (next
     (next
     (next
@@ -71,10 +72,10 @@ returns c =
     c.put_field-four.ensures)
     c.put_right-five.ensures)
     c.put.ensures)
-    (row_of_fields a.p.0 a.h.0 a.s a.number a.bonds) in
-    let line = row_line a.p.0 a.h.0 a.s a.number a.bonds
+    (row_of_fields a.p.0 row.height.0 row.status row.number row.bonds) in
+    let line = row_line a.p.0 row.height.0 row.status row.number row.bonds
     (omega arith)
     (omega arith)
     (omega arith)
     (omega arith) in
-    (row, omega (arith, row.past, lines_long line))
+    (all, omega (arith, all.past, lines_long line))
