@@ -8,7 +8,6 @@ ghost use Rattle.tally.specs.Ready.{Ready};
 
 use model::{MAX_CHECKPOINTS, MAX_VOTES, Place};
 use state::Witness;
-use state::quotas::quota_of;
 use voters::{Bar, Voters, total_bond};
 
 // The place of each vote's member, found by its id.
@@ -65,7 +64,7 @@ pub fn prepare(w: &Witness) -> Ballots
     let bonds = &w.bonds[..w.member_count];
     let voters = &w.voters[..w.vote_count];
     let targets = &w.targets[..w.vote_count];
-    let quota = quota_of(w.numbers);
+    let quota = w.numbers.quota();
     Ballots {
         who: member_places(ids, voters),
         chains: bucket(targets),
