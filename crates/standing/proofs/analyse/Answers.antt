@@ -1,7 +1,6 @@
 use native.Mathlib.Omega.{arith}
 use lib.Seq.{length-take-le}
 use Rattle.state.proofs.Sound.{few-members}
-use Rattle.voters.proofs.Weights.{first_good}
 use Rattle.tally.proofs.Ready.{ready-bonds, ready-bar}
 use Rattle.standing.proofs.Turns.{turn-first, turn-walk, turn-parent, turn_more, turn_last}
 use Rattle.standing.proofs.analyse.Goals as goal
@@ -20,7 +19,7 @@ reaches-requires c =
     let at = c.loop-t.invariant in
     let sources = c.gather.new.voters in (
       omega (arith, length-take-le c.loop-t.t sources (omega (arith, at.low, at.few)), at.marked.long, at.low, at.few),
-      first_good _ _ (ready-bonds at.ready),
+      ready-bonds at.ready,
       ready-bar at.ready,
     )
 
@@ -28,7 +27,7 @@ pub bounds-voters-p : goal.bounds-voters-p
 bounds-voters-p c = turn-parent c.loop-t.invariant c.loop-t-test.true
 
 pub carries-requires : goal.carries-requires
-carries-requires c = (first_good _ _ (ready-bonds c.loop-t.invariant.ready), ready-bar c.loop-t.invariant.ready)
+carries-requires c = (ready-bonds c.loop-t.invariant.ready, ready-bar c.loop-t.invariant.ready)
 
 pub bounds-marks-p : goal.bounds-marks-p
 bounds-marks-p c = turn-parent c.loop-t.invariant c.loop-t-test.true
