@@ -24,21 +24,23 @@ reaches-requires c =
     )
 
 pub bounds-voters-p : goal.bounds-voters-p
-bounds-voters-p c = turn-parent c.loop-t.invariant c.loop-t-test.true
+bounds-voters-p c = rw c.from-p.ensures (turn-parent c.loop-t.invariant c.loop-t-test.true)
 
 pub carries-requires : goal.carries-requires
 carries-requires c = (ready-bonds c.loop-t.invariant.ready, ready-bar c.loop-t.invariant.ready)
 
 pub bounds-marks-p : goal.bounds-marks-p
-bounds-marks-p c = turn-parent c.loop-t.invariant c.loop-t-test.true
+bounds-marks-p c = rw c.from-p.ensures (turn-parent c.loop-t.invariant c.loop-t-test.true)
 
 pub bounds-marks-p-in-loop-t : goal.bounds-marks-p-in-loop-t
-bounds-marks-p-in-loop-t c = turn-parent c.loop-t.invariant c.loop-t-test.true
+bounds-marks-p-in-loop-t c = rw c.from-p.ensures (turn-parent c.loop-t.invariant c.loop-t-test.true)
 
 pub loop-t-preserved : goal.loop-t-preserved
 loop-t-preserved c =
-    turn_more c.loop-t.invariant c.loop-t-test.true c.gather.new.voters (omega arith) c.gather.ensures c.reaches.ensures
-    c.carries.ensures
+    rw c.from-p.ensures
+    (turn_more c.loop-t.invariant c.loop-t-test.true c.gather.new.voters (omega arith) c.gather.ensures
+    c.reaches.ensures
+    (rw c.from-p.ensures at c.carries.ensures))
 
 pub returns : goal.returns
 returns c = turn_last c.loop-t.invariant c.loop-t-test.false
