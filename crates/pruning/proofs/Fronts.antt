@@ -9,13 +9,12 @@ use mathlib.Core.List.{List, [], ◌∷◌, ◌++◌, map, flat_map, append-nil,
 use mathlib.Core.Bool.{Bool, true, false}
 use lib.ListN.{length, get_or, set, take, drop, length-map, length-append, length-drop}
 use lib.Seq.{drop-cons, set_at, take_at, append_snoc, get_or-append-add, get_or-drop, drop-append-add, drop-drop}
-use lib.Seq.{length-take-le, paste, drop-paste}
+use lib.Seq.{length-take-le, paste}
 use Rattle.model.specs.Bytes.{part}
 use Rattle.model.specs.Lists.{picked}
 use Rattle.model.proofs.Lists.{decided}
 use Rattle.model.proofs.Picked.{rank, rank_le, rank-yes, rank-no, picked-yes, picked-no}
 use Rattle.state.specs.State.{front}
-use Rattle.state.proofs.Store.{paste_more}
 
 -- ---- an array with a list in front
 
@@ -59,25 +58,6 @@ module _ {A : Type 0} (ys xs : List A) where
     where
       more : length ys + m ≡ length (ys ++ take m s)
       more = sym (length-append ys (take m s) ∙ ap (λ (k : ℕ). length ys + k) (length-take-le m s h))
-
--- a byte more of a table that moves some of its own bytes down
-pub bytes-more : (d : List ℕ) (to from i : ℕ) {l : List ℕ} → l ≡ paste d to (drop from d) i → to ≤ from
-    → from + i < length d → set l (to + i) (get_or l (from + i) 0) ≡ paste d to (drop from d) (i + 1)
-bytes-more d to from i {l} e h inside =
-    ap (set l (to + i)) unread ∙ paste_more d to d from i e (omega arith) inside
-  where
-    split : from + i ≡ (to + i) + (from - to)
-    split = omega arith
-
-    unread : get_or l (from + i) 0 ≡ get_or d (from + i) 0
-    unread =
-        ap (λ (k : ℕ). get_or l k 0) split
-        ∙ sym (get_or-drop (to + i) l (from - to) 0)
-        ∙ ap (λ (x : List ℕ). get_or (drop (to + i) x) (from - to) 0) e
-        ∙ ap (λ (x : List ℕ). get_or x (from - to) 0)
-        (drop-paste d to (drop from d) i (omega arith) (omega (arith, length-drop from d)))
-        ∙ get_or-drop (to + i) d (from - to) 0
-        ∙ ap (λ (k : ℕ). get_or d k 0) (sym split)
 
 -- ---- the entries that pass, one by one
 
@@ -137,12 +117,6 @@ module _ (p : ℕ → Bool) (xs : List ℕ) where
       (λ e.
       ap (λ (ks : List ℕ). length (flat_map name_at ks)) (picked-no p i e) ∙ omega (arith, before, rank-no p i e))
       (decided (p i))
-
-  pub names-length : (i : ℕ) → i * 32 ≤ length xs → length (compacted_names i) ≡ length xs
-  names-length i h =
-      let ys = flat_map name_at (picked p i) in
-      length-append ys (drop (length ys) xs)
-      ∙ omega (arith, names-long i h, rank_le p i, length-drop (length ys) xs)
 
   pub names-keep : (i n : ℕ) → n ≡ rank p i → suc i * 32 ≤ length xs → p i ≡ true
       → paste (compacted_names i) (n * 32) (drop (i * 32) (compacted_names i)) 32 ≡ compacted_names (i + 1)

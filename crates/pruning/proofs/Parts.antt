@@ -7,7 +7,7 @@ use mathlib.Core.Path.{◌≡◌, refl, sym, ap, ap₂, ◌∙◌}
 use mathlib.Core.List.{List, flat_map}
 use mathlib.Core.Bool.{Bool, true, false, cond, ◌&&◌}
 use lib.Dec.{eqb}
-use lib.ListN.{length, get_or, set, drop}
+use lib.ListN.{get_or, set, drop}
 use lib.Seq.{paste}
 use Rattle.model.specs.Limits.{checkpoint_limit, vote_limit}
 use Rattle.model.specs.Lists.{picked}
@@ -19,7 +19,7 @@ use Rattle.state.specs.State.{place, height, tree_part, vote_part, with_tree_par
 use Rattle.state.specs.declared.Witness.{Witness}
 use Rattle.pruning.specs.Pruned.{stays_at, place_then, parent_in, vote_stays, pruned_tree, pruned_votes}
 use Rattle.pruning.specs.declared.Kept.{Kept}
-use Rattle.pruning.proofs.Fronts.{compacted-keep, compacted-drop, compacted-unread, names-length, names-keep}
+use Rattle.pruning.proofs.Fronts.{compacted-keep, compacted-drop, compacted-unread, names-keep}
 use Rattle.pruning.proofs.Fronts.{names-drop}
 
 -- the rank of the next number, after one that passes and after one that does not
@@ -60,13 +60,6 @@ module _ (w : Witness) (r : ℕ) (k : Kept) where
     places_are : n ≡ rank (stays_at k) i
     unfolding pruned_tree
     places_are = ap (λ (v : Witness). v.checkpoint_count) so.is
-
-    pub tree-names : SizedTree (tree_part w) → i ≤ checkpoint_limit → length next.names ≡ 32 * checkpoint_limit
-    unfolding pruned_tree
-    tree-names sized room =
-        ap (λ (v : Witness). length v.names) so.is
-        ∙ names-length (stays_at k) w.names i (omega (arith, sized.names))
-        ∙ sized.names
 
     -- the parent that is looked up is as it was
     pub tree-parent : {q : ℕ} → q ≡ cond (eqb i r) r (get_or next.parents i (place 0)).0 → q ≡ parent_in w r i

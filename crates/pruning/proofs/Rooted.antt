@@ -15,7 +15,7 @@ use Rattle.model.specs.Move.{kept?, kept_vote?, anew, moved_checkpoint, moved_vo
 use Rattle.model.proofs.Lists.{all_append, decided, lt_or_ge}
 use Rattle.model.proofs.Picked.{picked-yes, picked-no}
 use Rattle.moves.proofs.Moved.{kept_true, kept-later}
-use Rattle.state.specs.Sound.{Sound}
+use Rattle.state.specs.Sound.{Sound, SizedVotes}
 use Rattle.state.specs.State.{place, height, front, model_of, witness_of, member_part, tree_part, vote_part}
 use Rattle.state.specs.State.{with_tree_part, with_vote_part, with_root}
 use Rattle.state.specs.declared.Witness.{Witness}
@@ -204,6 +204,9 @@ module _ (w : Witness) (s : Sound w) (r : ℕ) (held : r < w.checkpoint_count) (
           sources = λ j h. omega (arith, source-held w s j h, few-checkpoints w s);
           targets = λ j h. omega (arith, target-held w s j h, few-checkpoints w s);
         })
+
+    pub votes-sized : SizedVotes (vote_part next)
+    votes-sized = subst (λ (v : Witness). SizedVotes (vote_part v)) (sym tree) s.typed.votes
 
     pub pruned_root : {last : Witness} → last ≡ with_vote_part next (pruned_votes next k next.vote_count)
         → last ≡ with_root w r

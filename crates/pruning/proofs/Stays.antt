@@ -26,7 +26,6 @@ use Rattle.state.specs.declared.Witness.{Witness}
 use Rattle.state.proofs.Entries.{count-checkpoints, checkpoint-is}
 use Rattle.state.proofs.Sound.{few-checkpoints}
 use Rattle.pruning.specs.Kept.{IsKept}
-use Rattle.pruning.specs.declared.Kept.{Kept}
 
 -- the places below p are looked at: which of them stay, and what their places are then; no later one is marked yet
 pub record Found (cs : List Checkpoint) (r : ℕ) (stays : List Bool) (places : List Place) (n p : ℕ) : Type 0 where

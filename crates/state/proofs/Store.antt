@@ -5,7 +5,7 @@ use native.Mathlib.Numerals.{add-one}
 use mathlib.Core.Path.{◌≡◌, sym, ap, ap₂, ◌∙◌}
 use mathlib.Core.List.{List, [], ◌∷◌, ◌++◌, map, append_assoc}
 use lib.ListN.{length, get_or, set, take, drop, length-map, length-drop, take-append-drop}
-use lib.Seq.{paste, paste-suc, get_or-drop, get_or-set_same, get_or-set_other, take_at, drop_at, take_all, length-take-le, take-append-le, drop-append-le}
+use lib.Seq.{paste, get_or-set_same, get_or-set_other, take_at, drop_at, take_all, length-take-le, take-append-le, drop-append-le}
 use Rattle.model.specs.Bytes.{part}
 use Rattle.model.specs.Change.{add_member, add_checkpoint, add_vote, give_quota, append}
 use Rattle.model.specs.Lists.{tabulate}
@@ -39,14 +39,6 @@ module _ {A : Type 0} (l : List A) (n : ℕ) (v d : A) where
 -- what stands in front is read from there, whatever follows
 front : (p r : List ℕ) (k m : ℕ) → k + m ≤ length p → part k m (p ++ r) ≡ part k m p
 front p r k m h = ap (take m) (drop-append-le k p r (omega arith)) ∙ take-append-le m (drop k p) r (omega (arith, length-drop k p))
-
--- one more byte of the log pasted
-pub paste_more : (d : List ℕ) (at : ℕ) (log : List ℕ) (from i : ℕ) {l : List ℕ} → l ≡ paste d at (drop from log) i → at + i < length d → from + i < length log
-    → set l (at + i) (get_or log (from + i) 0) ≡ paste d at (drop from log) (i + 1)
-paste_more d at log from i e inside read =
-    ap₂ (λ (x : List ℕ) (v : ℕ). set x (at + i) v) e (sym (get_or-drop from log i 0))
-    ∙ paste-suc d at (drop from log) i 0 inside (omega (arith, length-drop from log))
-    ∙ ap (paste d at (drop from log)) (sym (add-one i))
 
 -- names pasted into the flat table
 module _ (d : List ℕ) (n : ℕ) (name : List ℕ) (fits : n * 32 + 32 ≤ length d) (long : length name ≡ 32) where

@@ -44,14 +44,6 @@ module _ (cs : List Checkpoint) where
   unfolding child?
   held a b later inside = simp (lt-ltb 0 b later, lt-ltb b (length cs) inside)
 
-  -- ---- the walk begins at t
-
-  pub walk_none : (s t : ℕ) → Walk cs s t t
-  walk_none s t = rw apart
-    where
-      apart : (eqb t s && ltb s t) ≡ false
-      apart = ⊎_elim (λ h. rw (ne_eqb t s (λ q. omega arith))) (λ h. rw (le-ltb s t h, and-false)) (lt_or_ge s t)
-
   module _ (smaller : Smaller cs) where
     child-later : {a b : ℕ} → Child cs a b → a < b
     child-later {a} {b} c = subst (λ (p : ℕ). p < b) c.from (smaller b c.later c.inside)

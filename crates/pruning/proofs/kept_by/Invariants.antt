@@ -1,5 +1,5 @@
 -- `pruning::kept_by` meets its contract. The loop's invariant: the places below `p` are looked at. Assumes nothing.
-use Prim.Native.Nat.{◌-◌, ◌≤◌}
+use Prim.Native.Nat.{◌≤◌}
 use Rattle.model.specs.Limits.{checkpoint_limit}
 use Rattle.state.specs.State.{model_of}
 use Rattle.pruning.proofs.Stays.{Found}
@@ -7,7 +7,5 @@ use Rattle.pruning.proofs.kept_by.Given as goal
 
 abbrev pub invariant-loop-p : goal.invariant-loop-p
 invariant-loop-p l =
-    (l.p ≤ l.count) × (l.count ≤ checkpoint_limit) × Found (model_of l.w).checkpoints l.root l.stays l.anew l.n l.p
-
-abbrev pub decreases-loop-p : goal.decreases-loop-p
-decreases-loop-p l = l.count - l.p
+    (l.fn.w.checkpoint_count ≤ checkpoint_limit)
+    × Found (model_of l.fn.w).checkpoints l.root l.stays l.anew l.n l.p
