@@ -5,28 +5,19 @@ use mathlib.Core.Path.{◌≡◌, refl, sym, ap}
 use mathlib.Core.List.{List}
 use mathlib.Core.Bool.{Bool, true, false, cond}
 use borrow.Author.Tests.{ltb-true, ltb-false}
-use lib.Dec.{eqb, ltb}
+use lib.Dec.{ltb}
 use lib.ListN.{length, take, get_or}
 use lib.Seq.{get_or-take, length-take-le}
 use Rattle.std.proofs.Common.{Option, Some, None, MatchOption, position}
 use Rattle.std.specs.List.{position_or_len}
 use Rattle.std.proofs.lemmas.List.Recursion.{is_position_or_len}
-use Rattle.model.specs.Lists.{any_below, first_index}
+use Rattle.model.specs.Lists.{first_index}
 use Rattle.model.proofs.Lists.{first_le}
 use Rattle.search.proofs.Search.{Element}
 use Rattle.search.proofs.Below.{Elements}
-use Rattle.search.proofs.Pointwise.{any_same}
 
 pub ids_at : (n i : ℕ) (l : List ℕ) → n ≤ length l → i < n → Element 0 (take n l) i (get_or l i 0)
 ids_at n i l fit h = record { inside = omega (arith, length-take-le n l fit); here = get_or-take n l i 0 h }
-
--- an id among the first j of them, as a list
-pub among-before : (l : List ℕ) (x j : ℕ)
-    → j < length l
-    → any_below (length (take j l)) (λ i. eqb (get_or (take j l) i 0) x) ≡ any_below j (λ i. eqb (get_or l i 0) x)
-among-before l x j h =
-    rw (length-take-le j l (omega arith))
-    (any_same j _ _ (λ i k. ap (λ (y : ℕ). eqb y x) (get_or-take j l i 0 k)))
 
 pub ids_all : (l : List ℕ) → Elements 0 l (length l) (λ i. get_or l i 0)
 ids_all l = record { many = refl; each = λ i h. record { inside = h; here = refl } }
