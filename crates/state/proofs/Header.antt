@@ -8,16 +8,15 @@ use mathlib.Core.List.{List, [], ◌∷◌}
 use mathlib.Core.Bool.{Bool, ◌&&◌, not}
 use lib.ListN.{length, take}
 use lib.Dec.{eqb, ltb}
-use Rattle.model.specs.Answer.{Answer, refused, answer, row}
+use Rattle.model.specs.Answer.{Answer, answer, row}
 use Rattle.model.specs.Bytes.{field, part, ascii}
 use Rattle.model.specs.Lists.{same_bytes}
 use Rattle.model.specs.Log.{header}
-use Rattle.model.specs.Refusals.{refusal_number}
 use Rattle.model.specs.declared.Refusal.{Refusal}
-use Rattle.state.specs.Reading.{IsBeginning, begin_with}
+use Rattle.state.specs.Reading.{IsBeginning, begin_with, start_of}
 use Rattle.state.specs.State.{empty_witness}
 use Rattle.state.specs.declared.Witness.{Witness}
-use Rattle.std.specs.Prelude.{Ok, Err}
+use Rattle.std.specs.Prelude.{Ok, Err, Result}
 
 swapped : (x y : ℕ) → eqb x y ≡ eqb y x
 swapped x y = same_test (λ e. eq-eqb y x (sym (eqb-true x y e))) (λ e. eq-eqb x y (sym (eqb-true y x e)))
@@ -38,11 +37,15 @@ pub header-rows : (log : List ℕ) {b1 b2 b3 : Bool}
 unfolding header
 header-rows log e1 e2 e3 = rw (e1, e2, e3)
 
-module _ (w : Witness) {name : List ℕ} {h : Answer (List ℕ)} where
-  pub refused-beginning : {r : Refusal} → refused (refusal_number r) ≡ h → IsBeginning w name h (record { outcome = Err r; witness = w })
+module _ (w : Witness) {name : List ℕ} {h : Answer (List ℕ)} {o : Result (Unit {0}) Refusal} (e : start_of name o ≡ h) where
+  pub refused-beginning : {r : Refusal} → o ≡ Err r → IsBeginning w name h (record { outcome = o; witness = w })
   unfolding begin_with
-  refused-beginning e = record { outcome = e; witness = ap (begin_with w) e }
+  refused-beginning is = record { outcome = e; witness = ap (begin_with w) (sym (ap (start_of name) is) ∙ e) }
 
-  pub right-beginning : {v : Witness} → v ≡ empty_witness name → answer name ≡ h → IsBeginning w name h (record { outcome = Ok tt; witness = v })
+  pub right-beginning : {u : Unit {0}} {v : Witness}
+      → o ≡ Ok u
+      → v ≡ empty_witness name
+      → IsBeginning w name h (record { outcome = o; witness = v })
   unfolding begin_with
-  right-beginning p e = record { outcome = e; witness = p ∙ ap (begin_with w) e }
+  right-beginning is p =
+      record { outcome = e; witness = p ∙ ap (begin_with w) (sym (ap (start_of name) is) ∙ e) }

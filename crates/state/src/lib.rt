@@ -1,14 +1,14 @@
 // The witness's state, and what a header begins.
 #![tactic(auto)]
 
-ghost use Rattle.std.specs.Prelude.{◌≡◌, ◌+◌, ◌*◌, ◌≤◌, length, take, drop};
+ghost use Rattle.std.specs.Prelude.{◌≡◌, ◌+◌, ◌*◌, ◌≤◌, length, take, drop, IfOk};
 ghost use Rattle.std.proofs.Math.Seq.{paste};
 ghost use Rattle.model.specs.Bytes.{part, ascii};
 ghost use Rattle.model.specs.Limits.{checkpoint_limit};
 ghost use Rattle.model.specs.Lists.{same_bytes};
 ghost use Rattle.model.specs.Log.{header};
 ghost use Rattle.state.specs.State.{empty_witness};
-ghost use Rattle.state.specs.Reading.{IsBeginning};
+ghost use Rattle.state.specs.Reading.{IsBeginning, start_of};
 
 use model::{Height, MAX_CHECKPOINTS, MAX_MEMBERS, MAX_VOTES, NAME_BYTES, Place, Refusal};
 
@@ -112,30 +112,31 @@ fn has_mark(log: &[u8]) -> bool
     log.starts_with(b"FFW")
 }
 
-// Rows 1 to 3; any witness may be handed in.
+// Rows 1 to 3.
+fn check_header(log: &[u8]) -> Result<(), Refusal>
+    ensures outcome { start_of (part 5 32 log.now) result ≡ header log.now }
+    ensures long { IfOk result (λ u. 37 ≤ length log.now) }
+{
+    if log.len() < 37 {
+        return Err(Refusal::LogTooShort);
+    }
+    if !has_mark(log) {
+        return Err(Refusal::LogMark);
+    }
+    if wire::be16(log, 3) != 1 {
+        return Err(Refusal::LogVersion);
+    }
+    Ok(())
+}
+
+// What a header begins; any witness may be handed in.
 pub fn begin(w: Witness, log: &[u8]) -> Beginning
     ensures { IsBeginning w (part 5 32 log.now) (header log.now) result }
 {
-    if log.len() < 37 {
-        return Beginning {
-            outcome: Err(Refusal::LogTooShort),
-            witness: w,
-        };
-    }
-    if !has_mark(log) {
-        return Beginning {
-            outcome: Err(Refusal::LogMark),
-            witness: w,
-        };
-    }
-    if wire::be16(log, 3) != 1 {
-        return Beginning {
-            outcome: Err(Refusal::LogVersion),
-            witness: w,
-        };
-    }
-    Beginning {
-        outcome: Ok(()),
-        witness: empty(log),
-    }
+    let outcome = check_header(log);
+    let witness = match outcome {
+        Ok(()) => empty(log),
+        Err(_) => w,
+    };
+    Beginning { outcome, witness }
 }
