@@ -1,20 +1,22 @@
 -- The held ids as a list: the one at an index, and how many there are.
-use Prim.Native.Nat.{ℕ, ◌<◌, ◌≤◌}
+use Prim.Native.Nat.{ℕ, suc, ◌<◌, ◌≤◌}
 use native.Mathlib.Omega.{arith}
-use mathlib.Core.Path.{◌≡◌, refl, sym, ap}
-use mathlib.Core.List.{List}
-use mathlib.Core.Bool.{Bool, true, false, cond}
+use mathlib.Core.Path.{◌≡◌, refl, sym, ap, ap₂}
+use mathlib.Core.Logic.{⊎_elim}
+use mathlib.Core.List.{List, [], ◌∷◌}
+use mathlib.Core.Bool.{Bool, true, false, cond, ◌&&◌}
 use borrow.Author.Tests.{ltb-true, ltb-false}
 use lib.Dec.{ltb}
 use lib.ListN.{length, take, get_or}
 use lib.Seq.{get_or-take, length-take-le}
 use Rattle.std.proofs.Common.{Option, Some, None, MatchOption, position}
-use Rattle.std.specs.List.{position_or_len}
+use Rattle.std.specs.List.{list_all, position_or_len}
+use Rattle.std.proofs.lemmas.List.Folds.{list_all_at}
 use Rattle.std.proofs.lemmas.List.Recursion.{is_position_or_len}
-use Rattle.model.specs.Lists.{first_index}
-use Rattle.model.proofs.Lists.{first_le}
+use Rattle.model.specs.Lists.{all_below, first_index}
+use Rattle.model.proofs.Lists.{first_le, all_true, true_all, clash, decided}
 use Rattle.search.proofs.Search.{Element}
-use Rattle.search.proofs.Below.{Elements}
+use Rattle.search.proofs.Below.{Elements, same_test}
 
 pub ids_at : (n i : ℕ) (l : List ℕ) → n ≤ length l → i < n → Element 0 (take n l) i (get_or l i 0)
 ids_at n i l fit h = record { inside = omega (arith, length-take-le n l fit); here = get_or-take n l i 0 h }
@@ -39,3 +41,19 @@ module _ {A : Type 0} (p : A → Bool) (d : A) (xs : List A) where
           (λ i. (i ≡ first_index p xs) × (i < length xs))
       go true t = (sym first-is, ltb-true (position_or_len p xs) (length xs) t)
       go false f = omega (arith, first-is, first_le p d xs, ltb-false (position_or_len p xs) (length xs) f)
+
+-- std's test of each element is the model's of each index
+module _ {A : Type 0} (p : A → Bool) (d : A) where
+  each-all : (xs : List A) → ((i : ℕ) → i < length xs → p (get_or xs i d) ≡ true) → list_all p xs ≡ true
+  each-all [] h = refl
+  each-all (x ∷ xs) h = ap₂ ◌&&◌ (h 0 (omega arith)) (each-all xs (λ i l. h (suc i) (omega arith)))
+
+  pub all-of : (xs : List A) → list_all p xs ≡ all_below (length xs) (λ i. p (get_or xs i d))
+  all-of xs = same_test there back
+    where
+      there : list_all p xs ≡ true → all_below (length xs) (λ i. p (get_or xs i d)) ≡ true
+      there e = true_all (length xs) (λ i. p (get_or xs i d))
+          (λ i h. ⊎_elim (λ t. t) (λ f. clash e (list_all_at p xs i d h f)) (decided (p (get_or xs i d))))
+
+      back : all_below (length xs) (λ i. p (get_or xs i d)) ≡ true → list_all p xs ≡ true
+      back e = each-all xs (all_true (length xs) (λ i. p (get_or xs i d)) e)

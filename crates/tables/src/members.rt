@@ -10,11 +10,7 @@ pub fn bonds_in_range(bonds: &[u64]) -> bool
     ensures { result
         ≡ all_below (length bonds.now) (λ i. ltb 0 (get_or bonds.now i 0) && leb (get_or bonds.now i 0) bond_limit) }
 {
-    let mut ok = true;
-    for bond in bonds {
-        ok &= (0 < *bond) & (*bond <= MAX_BOND);
-    }
-    ok
+    bonds.iter().all(|bond| (0 < *bond) & (*bond <= MAX_BOND))
 }
 
 // Whether `id` is among the ids. Every id is looked at: many are then compared at once.
