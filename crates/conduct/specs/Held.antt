@@ -3,13 +3,15 @@ use Rattle.std.specs.Prelude.{ℕ, ◌<◌, ◌≡◌, List, map, false, length,
 use Rattle.model.specs.Evidence.{by_id}
 use Rattle.model.specs.Lists.{All}
 use Rattle.model.specs.Model.{Model, Member, member_at, vote_at, height_of, same_vote}
+use Rattle.conduct.specs.Pairs.{span_at}
+use Rattle.conduct.specs.declared.Span.{Span}
 
 -- of each vote its member and the heights of its two places; no vote is held twice
-pub record VotesHeld (m : Model) (voters lows highs : List ℕ) (n : ℕ) : Type 0 where
+pub record VotesHeld (m : Model) (voters : List ℕ) (spans : List Span) (n : ℕ) : Type 0 where
   pub count : length m.votes ≡ n
   pub voter : (i : ℕ) → i < n → (vote_at m.votes i).voter ≡ get_or voters i 0
-  pub low : (i : ℕ) → i < n → height_of m.checkpoints (vote_at m.votes i).source ≡ get_or lows i 0
-  pub high : (i : ℕ) → i < n → height_of m.checkpoints (vote_at m.votes i).target ≡ get_or highs i 0
+  pub low : (i : ℕ) → i < n → height_of m.checkpoints (vote_at m.votes i).source ≡ (span_at spans i).low.0
+  pub high : (i : ℕ) → i < n → height_of m.checkpoints (vote_at m.votes i).target ≡ (span_at spans i).high.0
   pub distinct : (i j : ℕ) → i < j → j < n → same_vote (vote_at m.votes i) (vote_at m.votes j) ≡ false
 
 -- the members' ids
