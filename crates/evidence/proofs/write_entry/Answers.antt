@@ -10,8 +10,9 @@ use Rattle.evidence.proofs.write_entry.Goals as goal
 pub returns : goal.returns
 unfolding entry_bytes
 returns c =
-    let a = c.args in
-    written-more 4 2 a.rest.now (be_bytes 2 a.id ++ be_bytes 2 a.earlier) (be_bytes 2 a.later)
+    let rest = c.args.rest.now in
+    let x = c.args.charge in
+    written-more 4 2 rest (be_bytes 2 x.id ++ be_bytes 2 x.earlier) (be_bytes 2 x.later)
     (simp (length-append, length-be_bytes))
-    (written-more 2 2 a.rest.now (be_bytes 2 a.id) (be_bytes 2 a.earlier) (length-be_bytes 2 a.id) c.put_at.ensures c.put_at-2.ensures)
+    (written-more 2 2 rest (be_bytes 2 x.id) (be_bytes 2 x.earlier) (length-be_bytes 2 x.id) c.put_at.ensures c.put_at-2.ensures)
     c.put_at-3.ensures
