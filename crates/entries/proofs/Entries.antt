@@ -7,18 +7,12 @@ use mathlib.Core.Bool.{Bool, cond}
 use borrow.Author.Tests.{ne_eqb}
 use borrow.Table.Elements.{map_app}
 use lib.Dec.{eqb}
-use lib.ListN.{length, drop, take, set, get_or, replicate, length-drop, length-append, length-map}
-use lib.Seq.{drop-cons, drop-drop, set_at, take_at, drop-append-add}
+use lib.ListN.{length, drop, take, set, get_or, replicate, length-drop, length-append, length-map, take-append-drop}
+use lib.Seq.{drop-cons, drop-drop, set_at, take_at, drop-append-add, length-take-le}
 use Rattle.model.specs.Answer.{Answer, refused, answer, row_of}
 use Rattle.model.specs.Change.{Told, nothing_left, taken}
 use Rattle.state.specs.Reading.{brief}
-use Rattle.entries.specs.Entries.{later, marked, rows_of, entries_of, entries}
-
--- the first `end` of the bytes lent are these, and the others are as they were
-pub record Written (written before rows : List ℕ) (end : ℕ) : Type 0 where
-  pub count : end ≡ length written
-  pub room : end ≤ length before
-  pub bytes : rows ≡ written ++ drop end before
+use Rattle.entries.specs.Entries.{later, marked, rows_of, entries_of, entries, Written}
 
 pub written-length : {written before rows : List ℕ} {end : ℕ} → Written written before rows end → length rows ≡ length before
 written-length {written} {before} {rows} {end} h =
@@ -43,32 +37,33 @@ write_one {written} {before} {rows} {end} x h inside =
 pub write_none : (written before : List ℕ) (end : ℕ) → end ≡ length written → end ≤ length before → Written written before (written ++ drop end before) end
 write_none written before end e inside = record { count = e; room = inside; bytes = refl }
 
--- behind a byte that was written over
-pub write_over : {written before rows rows' : List ℕ} {used end : ℕ} (more : List ℕ) (x : ℕ) → Written written before rows used → used < length before
-    → Written (take used (set rows used x) ++ more) (set rows used x) rows' end → used < end → Written (written ++ more) before rows' end
-write_over {written} {before} {rows} {rows'} {used} {end} more x h inside w past =
-    let one = write_one x h inside in
-    let seen : set rows used x ≡ written ++ x ∷ drop (used + 1) before = one.bytes ∙ append_assoc written (x ∷ []) (drop (used + 1) before) in
-    let front : take used (set rows used x) ≡ written =
-    ap (take used) seen ∙ take_at written (x ∷ drop (used + 1) before) used (sym h.count) in
-    let long = written-length one in
+-- behind what stands before `used`, more is written
+pub write_behind : {written before rows rows' : List ℕ} {used end : ℕ} (more : List ℕ) → Written written before rows used
+    → Written (take used rows ++ more) rows rows' end → used ≤ end → Written (written ++ more) before rows' end
+write_behind {written} {before} {rows} {rows'} {used} {end} more h w past =
+    let front : take used rows ≡ written = ap (take used) h.bytes ∙ take_at written (drop used before) used (sym h.count) in
+    let long = written-length h in
     record {
       count = w.count ∙ ap (λ (l : List ℕ). length (l ++ more)) front;
       room = omega (arith, w.room, long);
       bytes =
           w.bytes
           ∙ ap₂ (λ (l r : List ℕ). (l ++ more) ++ r) front
-          (ap (drop end) one.bytes ∙ behind-one (end - (used + 1)) (omega arith) one.count ∙ drop_drop' (omega arith));
+          (ap (drop end) h.bytes ∙ behind (end - used) (omega arith) ∙ drop-all (omega arith));
     }
   where
-    behind-one : (k : ℕ) → end ≡ used + 1 + k → used + 1 ≡ length (written ++ x ∷ [])
-        → drop end ((written ++ x ∷ []) ++ drop (used + 1) before) ≡ drop k (drop (used + 1) before)
-    behind-one k e c =
-        ap (λ (n : ℕ). drop n ((written ++ x ∷ []) ++ drop (used + 1) before)) (e ∙ ap (λ (n : ℕ). n + k) c)
-        ∙ drop-append-add (written ++ x ∷ []) (drop (used + 1) before) k
+    behind : (k : ℕ) → end ≡ used + k → drop end (written ++ drop used before) ≡ drop k (drop used before)
+    behind k e =
+        ap (λ (n : ℕ). drop n (written ++ drop used before)) (e ∙ ap (λ (n : ℕ). n + k) h.count)
+        ∙ drop-append-add written (drop used before) k
 
-    drop_drop' : used + 1 + (end - (used + 1)) ≡ end → drop (end - (used + 1)) (drop (used + 1) before) ≡ drop end before
-    drop_drop' e = drop-drop (end - (used + 1)) (used + 1) before ∙ ap (λ (n : ℕ). drop n before) e
+    drop-all : used + (end - used) ≡ end → drop (end - used) (drop used before) ≡ drop end before
+    drop-all e = drop-drop (end - used) used before ∙ ap (λ (n : ℕ). drop n before) e
+
+-- what stands before `used`, as it was
+pub write_front : (rows : List ℕ) (used : ℕ) → used ≤ length rows → Written (take used rows) rows rows used
+write_front rows used inside =
+    record { count = sym (length-take-le used rows inside); room = inside; bytes = sym (take-append-drop used rows) }
 
 -- ---- the entries of a record
 

@@ -2,8 +2,8 @@
 -- number. Of a bundle that is not refused whole there is one byte for each vote, the i-th that of the i-th bit set;
 -- those after the first have 128 added, and so begin no record. A bundle with one bit set reads as a single record
 -- does.
-use Rattle.std.specs.Prelude.{ℕ, ◌+◌, ◌-◌, ◌%◌, Result, Ok, Err}
-use mathlib.Core.List.{List, [], ◌∷◌, map, flat_map}
+use Rattle.std.specs.Prelude.{ℕ, ◌+◌, ◌-◌, ◌%◌, ◌≤◌, ◌≡◌, length, drop, Result, Ok, Err}
+use mathlib.Core.List.{List, [], ◌∷◌, ◌++◌, map, flat_map}
 use Rattle.model.specs.Answer.{Answer, refused, answer, row_of}
 use Rattle.model.specs.Bytes.{part}
 use Rattle.model.specs.Change.{Told, nothing_left, taken, bundled}
@@ -42,3 +42,9 @@ votes_in (Err r) = 0
 -- the rows of the last n of the first `used` entries
 abbrev pub last_rows : (n used : ℕ) → List ℕ → List ℕ
 last_rows n used bytes = map (λ e. e % 128) (part (used - n) n bytes)
+
+-- the first `end` of the bytes lent are these, and the others are as they were
+pub record Written (written before rows : List ℕ) (end : ℕ) : Type 0 where
+  pub count : end ≡ length written
+  pub room : end ≤ length before
+  pub bytes : rows ≡ written ++ drop end before

@@ -1,7 +1,7 @@
 -- The votes of a bundle, stored one after the other: what the loop over the member places keeps up.
 use Prim.Native.Nat.{ℕ, zero, suc, ◌+◌, ◌<◌, ◌≤◌}
 use native.Mathlib.Omega.{arith}
-use mathlib.Core.Path.{◌≡◌, refl, sym, ap, ap₂, ◌∙◌, subst, transport}
+use mathlib.Core.Path.{◌≡◌, refl, sym, ap, ap₂, ◌∙◌, subst}
 use mathlib.Core.List.{List, [], ◌∷◌, ◌++◌, map, flat_map, append_assoc, append-nil}
 use mathlib.Core.Bool.{Bool, true, false, cond}
 use borrow.Author.Tests.{eq-eqb, ne_eqb}
@@ -25,9 +25,10 @@ use Rattle.bits.proofs.SetPlaces.{set_below, one_more, none_more}
 use Rattle.ballots.specs.Ballot.{cast_vote}
 use Rattle.registry.specs.Decision.{cast_each}
 use Rattle.rules.proofs.Bundled.{after_each, each_more, each_fits, each-members, each_number}
-use Rattle.entries.specs.Entries.{later, marked, rows_of, entries_of}
-use Rattle.entries.proofs.Entries.{Written, write_one, marked_more}
-use Rattle.reader.proofs.Searched.{Searched}
+use Rattle.entries.specs.Entries.{later, marked, rows_of, Written}
+use Rattle.entries.proofs.Entries.{write_one, marked_more}
+use Rattle.search.specs.declared.Links.{Links}
+use Rattle.reader.specs.Storing.{Searched, bundle_cast, Stores}
 
 module _ (w : Witness) (l : Answer Link) (bits : List ℕ) where
   -- the ids of the places below p whose bits are set, and what is decided on their votes
@@ -41,12 +42,12 @@ module _ (w : Witness) (l : Answer Link) (bits : List ℕ) where
   rows_below p = map row_of (map (λ (d : Decision). one_vote d.told) (votes_below p))
 
   -- the loop at place p: `before` are the bytes lent, `used` of them written before the bundle
-  pub record Casting (before keys heads nexts : List ℕ) (used p : ℕ) (rows : List ℕ) (held : Witness) (end : ℕ) : Type 0 where
+  pub record Casting (before : List ℕ) (links : Links) (used p : ℕ) (rows : List ℕ) (held : Witness) (end : ℕ) : Type 0 where
     pub places : p ≤ 128
     pub stored_so_far : held ≡ stored w (together (votes_below p))
     pub written : Written (take used before ++ marked (rows_below p)) before rows end
     pub past : end ≡ used + length (set_below bits p)
-    pub searched : Searched held keys heads nexts
+    pub searched : Searched held links
 
 same-zero : (end used n : ℕ) → end ≡ used + n → eqb end used ≡ eqb n 0
 same-zero end used zero e = eq-eqb end used (omega (arith, e)) ∙ sym (eq-eqb 0 0 refl)
@@ -58,8 +59,8 @@ unfolding together flat_map
 changes-more [] d = append-nil d.changes
 changes-more (e ∷ ds) d = ap (λ (l : List Change). e.changes ++ l) (changes-more ds d) ∙ sym (append_assoc e.changes _ d.changes)
 
-module _ {w : Witness} {l : Answer Link} {bits before keys heads nexts : List ℕ} {used p : ℕ} {rows : List ℕ} {held : Witness} {end : ℕ}
-    (sound : Sound w) (c : Casting w l bits before keys heads nexts used p rows held end) where
+module _ {w : Witness} {l : Answer Link} {bits before : List ℕ} {links : Links} {used p : ℕ} {rows : List ℕ} {held : Witness} {end : ℕ}
+    (sound : Sound w) (c : Casting w l bits before links used p rows held end) where
   abbrev m : Model
   m = model_of w
 
@@ -96,7 +97,7 @@ module _ {w : Witness} {l : Answer Link} {bits before keys heads nexts : List �
       ∙ ap (λ (x : Member). x.id) (member_is held p (omega (arith, count-members held, ap length members_now))))
 
   -- the next place's bit is not set
-  pub skip : p < 128 → bit_set bits p ≡ false → Casting w l bits before keys heads nexts used (p + 1) rows held end
+  pub skip : p < 128 → bit_set bits p ≡ false → Casting w l bits before links used (p + 1) rows held end
   skip inside unset =
       let same : set_below bits p ≡ set_below bits (p + 1) = sym (none_more bits p unset ∙ append-nil (set_below bits p)) in
       let over : List ℕ → List Decision = λ ps. cast_each m l (map (λ q. (member_at m.members q).id) ps) in
@@ -137,11 +138,11 @@ module _ {w : Witness} {l : Answer Link} {bits before keys heads nexts : List �
         ∙ each_number m l ids
         ∙ length-map (set_below bits p) (λ q. (member_at m.members q).id)
 
-    pub take-vote : {held' : Witness} {keys' heads' nexts' : List ℕ} {row x : ℕ} → p < 128 → end < length before
-        → held' ≡ stored held d → Searched held' keys' heads' nexts'
+    pub take-vote : {held' : Witness} {links' : Links} {row x : ℕ} → p < 128 → end < length before
+        → held' ≡ stored held d → Searched held' links'
         → row ≡ row_of (one_vote d.told) → x ≡ cond (eqb end used) row (later row)
-        → Casting w l bits before keys' heads' nexts' used (p + 1) (set rows end x) held' (end + 1)
-    take-vote {held'} {keys'} {heads'} {nexts'} {row} {x} inside room stored searched row_is x-is =
+        → Casting w l bits before links' used (p + 1) (set rows end x) held' (end + 1)
+    take-vote {held'} {links'} {row} {x} inside room stored searched row_is x-is =
         let first : eqb end used ≡ eqb (length (rows_below w l bits p)) 0 =
         same-zero end used (length (rows_below w l bits p)) (c.past ∙ ap (λ (n : ℕ). used + n) (sym rows-number)) in
         let front = take used before in
@@ -164,18 +165,11 @@ module _ {w : Witness} {l : Answer Link} {bits before keys heads nexts : List �
           searched = searched;
         }
 
--- of the values that the code has
-pub casting_as : {w : Witness} {l : Answer Link} {bits before keys keys' heads heads' nexts nexts' : List ℕ} {used p : ℕ} {rows rows' : List ℕ} {held held' : Witness} {end end' : ℕ}
-    → rows' ≡ rows → keys' ≡ keys → heads' ≡ heads → nexts' ≡ nexts → held' ≡ held → end' ≡ end
-    → Casting w l bits before keys heads nexts used p rows held end → Casting w l bits before keys' heads' nexts' used p rows' held' end'
-casting_as {w} {l} {bits} {before} {used = used} {p} r k h n v e c =
-    transport (λ i. Casting w l bits before (sym k i) (sym h i) (sym n i) used p (sym r i) (sym v i) (sym e i)) c
-
 -- no place is passed yet
-pub none-cast : (w : Witness) (l : Answer Link) (bits before keys heads nexts : List ℕ) (used : ℕ) → used ≤ length before → Searched w keys heads nexts
-    → Casting w l bits before keys heads nexts used 0 before w used
+pub none-cast : (w : Witness) (l : Answer Link) (bits before : List ℕ) (links : Links) (used : ℕ) → used ≤ length before → Searched w links
+    → Casting w l bits before links used 0 before w used
 unfolding cast_each together flat_map store_all concat_below marked
-none-cast w l bits before keys heads nexts used inside searched =
+none-cast w l bits before links used inside searched =
     let front = take used before in
     record {
       places = omega arith;
@@ -191,18 +185,15 @@ none-cast w l bits before keys heads nexts used inside searched =
     }
 
 -- all are: what is held is the bundle's, and its entries stand
-pub record Cast (w : Witness) (l : Answer Link) (bits before : List ℕ) (used : ℕ) (rows : List ℕ) (held : Witness) (end : ℕ) : Type 0 where
-  pub all-stored : held ≡ stored w (together (cast_each (model_of w) l (bundle_ids (model_of w) bits)))
-  pub all-written : Written (take used before ++ entries_of (together (cast_each (model_of w) l (bundle_ids (model_of w) bits))).told) before rows end
-  pub all_past : end ≡ used + length (set_places bits)
-
-pub all-cast : {w : Witness} {l : Answer Link} {bits before keys heads nexts : List ℕ} {used p : ℕ} {rows : List ℕ} {held : Witness} {end : ℕ}
-    → Casting w l bits before keys heads nexts used p rows held end → 128 ≤ p → Cast w l bits before used rows held end
+pub all-cast : {w : Witness} {l : Answer Link} {bits before : List ℕ} {links : Links} {used p : ℕ} {rows : List ℕ} {held : Witness} {end : ℕ}
+    → Casting w l bits before links used p rows held end → 128 ≤ p → 0 < length (set_places bits)
+    → Stores w (bundle_cast w l bits) before used rows held links end
 unfolding bundle_ids set_places together rows_of
-all-cast {w} {l} {bits} {before} {keys} {heads} {nexts} {used} {p} {rows} {held} {end} c past =
+all-cast {w} {l} {bits} {before} {links} {used} {p} {rows} {held} {end} c past some =
     let last : p ≡ 128 = omega (arith, c.places) in
     record {
       all-stored = c.stored_so_far ∙ ap (λ (q : ℕ). stored w (together (votes_below w l bits q))) last;
+      searched = c.searched;
       all-written = subst (λ (q : ℕ). Written (take used before ++ marked (rows_below w l bits q)) before rows end) last c.written;
-      all_past = c.past ∙ ap (λ (q : ℕ). used + length (set_below bits q)) last;
+      past = omega (arith, c.past, ap (λ (q : ℕ). length (set_below bits q)) last, some);
     }

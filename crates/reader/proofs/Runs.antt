@@ -24,9 +24,9 @@ use Rattle.state.specs.declared.Passed.{Passed}
 use Rattle.state.specs.declared.Passed.TheVariants.{Nothing}
 use Rattle.state.specs.declared.Witness.{Witness}
 use Rattle.state.proofs.Kept.{reading-sound}
-use Rattle.entries.specs.Entries.{entries_of, entries}
+use Rattle.entries.specs.Entries.{entries_of, entries, Written}
 use Rattle.reader.specs.Many.{spent, ended_by, Many, behind, none_passed, read_many, last_told, end_of, IsBatch}
-use Rattle.entries.proofs.Entries.{Written, written-length, entries-more}
+use Rattle.entries.proofs.Entries.{written-length, entries-more}
 
 -- ---- what was told last
 

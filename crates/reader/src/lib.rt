@@ -1,13 +1,27 @@
 // Reading a log on: several records in one call.
 #![tactic(auto)]
 
-ghost use Rattle.std.specs.Prelude.{◌≡◌, length};
-ghost use Rattle.state.specs.Sound.{Sound};
+ghost use Rattle.std.specs.Prelude.{◌≡◌, false, ◌+◌, ◌≤◌, ◌<◌, leb, length, drop};
+ghost use Rattle.std.specs.Prelude.{Ok};
+ghost use Rattle.model.specs.Bits.{set_places};
+ghost use Rattle.model.specs.Bytes.{part};
+ghost use Rattle.model.specs.Decide.{decide};
+ghost use Rattle.model.specs.Limits.{member_limit, vote_limit};
+ghost use Rattle.model.specs.Lists.{any};
+ghost use Rattle.state.specs.Sound.{Typed, Sound};
+ghost use Rattle.state.specs.State.{model_of, with_vote};
+ghost use Rattle.ballots.specs.Ballot.{vote_in, link_answer_of};
+ghost use Rattle.registry.specs.Decision.{decision_of};
+ghost use Rattle.rules.specs.Decision.{BitsFit};
 ghost use Rattle.reader.specs.Many.{read_many, IsBatch};
+ghost use Rattle.reader.specs.Storing.{Searched, bundle_cast, Stores};
 
-use model::MAX_MEMBERS;
+use ballots::links::Link;
+use ballots::votes::{Ballot, decide_cast};
+use model::{MAX_MEMBERS, Refusal};
 use registry::Decision;
-use state::{Counts, Numbers, Outcome, Passed, Witness};
+use search::Links;
+use state::{Numbers, Outcome, Passed, Witness};
 
 // What reading on comes to: why it ended, what the last record that was passed came to (`Nothing` where none was), the
 // offset to go on from, how many records were passed and how many entries they have, and the witness.
@@ -24,52 +38,117 @@ pub struct Batch {
     pub witness: Witness,
 }
 
+// A vote that has room is held, and its number stands in its chain.
+fn store_vote(held: &mut Witness, links: &mut Links, ballot: Ballot)
+    requires { Typed held.old × (held.old.vote_count < vote_limit) × Searched held.old links.old }
+    ensures { (held.new ≡ with_vote held.old (vote_in ballot)) × Searched held.new links.new }
+{
+    let k = held.vote_count;
+    held.voters[k] = ballot.voter;
+    held.sources[k] = ballot.source;
+    held.targets[k] = ballot.target;
+    held.vote_count = k + 1;
+    links.put_first(k, ballot.key());
+}
+
+// The votes of the bundle at `at`, one after the other: each meets what the last one left. Their entries stand from
+// `used` on, and end at what is given.
+fn cast_votes(
+    held: &mut Witness,
+    links: &mut Links,
+    link: Result<Link, Refusal>,
+    log: &[u8],
+    at: usize,
+    rows: &mut [u8],
+    used: usize,
+) -> usize
+    requires held { Sound held.old × Searched held.old links.old }
+    requires bits { (at + 17 ≤ length log.now)
+        × (any (λ p. leb held.old.member_count p) (set_places (part (at + 1) 16 log.now)) ≡ false)
+        × (0 < length (set_places (part (at + 1) 16 log.now))) }
+    requires room { used + member_limit ≤ length rows.old }
+    ensures { Stores held.old (bundle_cast held.old (link_answer_of link) (part (at + 1) 16 log.now)) rows.old used rows.new
+        held.new links.new result }
+{
+    let mut end = used;
+    for p in 0..MAX_MEMBERS {
+        if bits::is_set(log, at + 1, p) {
+            let vote = decide_cast(held, links, link, held.ids[p]);
+            rows[end] = entries::vote_entry(vote, end == used);
+            end += 1;
+            if let Ok(ballot) = vote {
+                store_vote(held, links, ballot);
+            }
+        }
+    }
+    end
+}
+
+// What was decided on the record at `at` is held, and its entries stand from `used` on; they end at what is given. The
+// state is written in place: it is large, and a function that took it and gave it back would copy it for each record.
+fn store(
+    held: &mut Witness,
+    links: &mut Links,
+    decision: Decision,
+    log: &[u8],
+    at: usize,
+    rows: &mut [u8],
+    used: usize,
+) -> usize
+    requires held { Sound held.old × Searched held.old links.old }
+    requires decided { decision_of (model_of held.old) (drop at log.now) (Ok decision)
+        ≡ decide (model_of held.old) (drop at log.now) }
+    requires bits { BitsFit held.old.member_count (drop at log.now) (Ok decision) }
+    requires room { used + member_limit ≤ length rows.old }
+    ensures { Stores held.old (decide (model_of held.old) (drop at log.now)) rows.old used rows.new held.new
+        links.new result }
+{
+    match decision {
+        Decision::Nothing => {}
+        Decision::Member(id, bond) => {
+            let k = held.member_count;
+            held.ids[k] = id;
+            held.bonds[k] = bond;
+            held.member_count = k + 1;
+        }
+        Decision::Checkpoint(parent, height) => {
+            let k = held.checkpoint_count;
+            state::copy_name(&mut held.names, k * 32, log, at + 1);
+            held.parents[k] = parent;
+            held.heights[k] = height;
+            held.checkpoint_count = k + 1;
+        }
+        Decision::Vote(ballot) => store_vote(held, links, ballot),
+        Decision::Bundle(_, link) => return cast_votes(held, links, link, log, at, rows, used),
+        Decision::Quorum(quota) => {
+            held.numbers = Numbers {
+                p: quota.p,
+                q: quota.q,
+            };
+        }
+    }
+    rows[used] = 0;
+    used + 1
+}
+
 // The records from `at` on, into a sound witness, to the log's end or its stop, at most `limit`, while 128 of the bytes
-// lent are free; the entries of each go there. The state is owned here alone and written in place: it is large, and a
-// function that took it and gave it back for each record would copy it each time. So the votes of a bundle are stored
-// here too, one after the other. Beside the state go the votes' numbers in chains, so that a vote is soon looked for.
+// lent are free; the entries of each go there. Beside the state go the votes' numbers in chains, so that a vote is soon
+// looked for.
 pub fn read_many(w: Witness, log: &[u8], at: usize, limit: u64, rows: &mut [u8]) -> Batch
     requires { Sound w }
     ensures { IsBatch (read_many limit (length rows.old) w log.now at) rows.old result
         rows.new }
 {
-    let sources = w.sources;
-    let targets = w.targets;
-    let links = tables::votes::index(&w.voters, sources, targets, w.vote_count);
-    let mut keys = links.numbers;
-    let mut heads = links.heads;
-    let mut nexts = links.nexts;
+    let n = w.vote_count;
+    let mut links = tables::votes::index(&w.voters[..n], &w.sources[..n], &w.targets[..n]);
     let mut held = w;
     let mut next = at;
     let mut last: Outcome = Ok(Passed::Nothing);
     let mut records: u64 = 0;
     let mut used: usize = 0;
     while (records < limit) & (MAX_MEMBERS <= rows.len() - used) {
-        let members = held.member_count;
-        let checkpoints = held.checkpoint_count;
-        let votes = held.vote_count;
-        let counts = Counts {
-            members,
-            checkpoints,
-            votes,
-        };
-        let parents = held.parents;
-        let heights = held.heights;
-        let numbers = held.numbers;
-        let d = rules::decide_record(
-            counts,
-            numbers,
-            &held.ids,
-            &held.names,
-            parents,
-            heights,
-            &keys,
-            &heads,
-            &nexts,
-            log,
-            next,
-        );
-        let outcome = rules::outcome_of(d);
+        let decided = rules::decide_record(&held, &links, log, next);
+        let outcome = rules::outcome_of(decided);
         let passed = wire::records::record_length(log, next);
         if passed == 0 {
             return Batch {
@@ -81,65 +160,13 @@ pub fn read_many(w: Witness, log: &[u8], at: usize, limit: u64, rows: &mut [u8])
                 witness: held,
             };
         }
-        rows[used] = entries::row_of(outcome);
-        let mut end = used + 1;
-        if let Ok(decision) = d {
-            match decision {
-                Decision::Member(id, bond) => {
-                    held.ids[members] = id;
-                    held.bonds[members] = bond;
-                    held.member_count = members + 1;
-                }
-                Decision::Checkpoint(p, h) => {
-                    state::copy_name(&mut held.names, checkpoints * 32, log, next + 1);
-                    held.parents[checkpoints] = p;
-                    held.heights[checkpoints] = h;
-                    held.checkpoint_count = checkpoints + 1;
-                }
-                Decision::Vote(vote) => {
-                    held.voters[votes] = vote.voter;
-                    held.sources[votes] = vote.source;
-                    held.targets[votes] = vote.target;
-                    held.vote_count = votes + 1;
-                    let key = tables::votes::key(vote.voter, vote.source, vote.target);
-                    search::put_first(&mut keys, &mut heads, &mut nexts, votes, key);
-                }
-                Decision::Bundle(_, link) => {
-                    end = used;
-                    let mut p: usize = 0;
-                    while p < MAX_MEMBERS {
-                        if bits::is_set(log, next + 1, p) {
-                            let k = held.vote_count;
-                            let vote = ballots::votes::decide_cast(
-                                link,
-                                &keys,
-                                &heads,
-                                &nexts,
-                                k,
-                                held.ids[p],
-                            );
-                            rows[end] = entries::vote_entry(vote, end == used);
-                            end += 1;
-                            if let Ok(b) = vote {
-                                held.voters[k] = b.voter;
-                                held.sources[k] = b.source;
-                                held.targets[k] = b.target;
-                                held.vote_count = k + 1;
-                                let key = tables::votes::key(b.voter, b.source, b.target);
-                                search::put_first(&mut keys, &mut heads, &mut nexts, k, key);
-                            }
-                        }
-                        p += 1;
-                    }
-                }
-                Decision::Quorum(k) => {
-                    let given = Numbers { p: k.p, q: k.q };
-                    held.numbers = given;
-                }
-                Decision::Nothing => {}
+        match decided {
+            Ok(decision) => used = store(&mut held, &mut links, decision, log, next, rows, used),
+            Err(refusal) => {
+                rows[used] = u8::from(refusal);
+                used += 1;
             }
         }
-        used = end;
         last = outcome;
         next += passed;
         records += 1;

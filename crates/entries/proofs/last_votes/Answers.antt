@@ -7,7 +7,8 @@ use lib.ListN.{length, replicate, get_or, set}
 use Rattle.model.specs.Bytes.{part}
 use Rattle.wire.proofs.Parts.{part-more}
 use Rattle.entries.specs.Entries.{votes_in, last_rows}
-use Rattle.entries.proofs.Entries.{Written, write_one, drop-zeros}
+use Rattle.entries.specs.Entries.{Written}
+use Rattle.entries.proofs.Entries.{write_one, drop-zeros}
 use Rattle.entries.proofs.last_votes.Goals as goal
 
 pub overflow_sub-from : goal.overflow_sub-from

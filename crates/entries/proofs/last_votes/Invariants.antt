@@ -3,7 +3,7 @@ use Prim.Native.Nat.{◌-◌, ◌%◌, ◌≤◌}
 use mathlib.Core.List.{map}
 use lib.ListN.{replicate}
 use Rattle.model.specs.Bytes.{part}
-use Rattle.entries.proofs.Entries.{Written}
+use Rattle.entries.specs.Entries.{Written}
 use Rattle.entries.proofs.last_votes.Given as goal
 
 abbrev pub invariant-loop-i : goal.invariant-loop-i
