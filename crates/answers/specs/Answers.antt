@@ -1,25 +1,24 @@
--- What the calls' answers mean in document 01's numbers and values.
-use Rattle.std.specs.Prelude.{Bool}
-use Rattle.model.specs.Answer.{Answer, refused, answer}
-use Rattle.model.specs.Refusals.{refusal_number}
+-- What the calls' answers mean in document 01's numbers and values, and row 40 before them.
+use Rattle.std.specs.Prelude.{Bool, ◌≡◌, false, Result, MatchResult}
+use Rattle.model.specs.Answer.{Answer}
+use Rattle.model.specs.Refusals.{refusal_number, answer_of}
 use Rattle.model.specs.Support.{Support}
+use Rattle.model.specs.declared.Refusal.{Refusal}
 use Rattle.model.specs.declared.Status.{Status}
+use Rattle.state.specs.Sound.{Sound, sound?}
+use Rattle.state.specs.declared.Witness.{Witness}
 use Rattle.finality.specs.Answers.{backing_of}
-use Rattle.answers.specs.declared.StatusAnswer.{StatusAnswer}
-use Rattle.answers.specs.declared.StatusAnswer.TheVariants.{Is as IsStatus, Refused as RefusedStatus}
-use Rattle.answers.specs.declared.SupportAnswer.{SupportAnswer}
-use Rattle.answers.specs.declared.SupportAnswer.TheVariants.{Is as IsSupport, Refused as RefusedSupport}
-use Rattle.answers.specs.declared.ConflictAnswer.{ConflictAnswer}
-use Rattle.answers.specs.declared.ConflictAnswer.TheVariants.{Is as IsConflict, Refused as RefusedConflict}
+use Rattle.finality.specs.declared.Backing.{Backing}
 
-abbrev pub status_of : StatusAnswer → Answer Status
-status_of (IsStatus s) = answer s
-status_of (RefusedStatus r) = refused (refusal_number r)
+abbrev pub status_of : Result Status Refusal → Answer Status
+status_of r = answer_of (λ s. s) r
 
-abbrev pub support_of : SupportAnswer → Answer Support
-support_of (IsSupport b) = answer (backing_of b)
-support_of (RefusedSupport r) = refused (refusal_number r)
+abbrev pub support_of : Result Backing Refusal → Answer Support
+support_of r = answer_of backing_of r
 
-abbrev pub conflict_of : ConflictAnswer → Answer Bool
-conflict_of (IsConflict b) = answer b
-conflict_of (RefusedConflict r) = refused (refusal_number r)
+abbrev pub conflict_of : Result Bool Refusal → Answer Bool
+conflict_of r = answer_of (λ b. b) r
+
+-- a sound state, or row 40
+abbrev pub PassesRow40 : Witness → Result (Unit {0}) Refusal → Type 0
+PassesRow40 w r = MatchResult r (λ u. Sound w) (λ why. (refusal_number why ≡ 40) × (sound? w ≡ false))

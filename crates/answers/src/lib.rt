@@ -3,120 +3,91 @@
 #![tactic(auto)]
 
 ghost use Rattle.std.specs.Prelude.{◌≡◌};
-ghost use Rattle.model.specs.Answer.{refused};
 ghost use Rattle.model.specs.Buffer.{write_answer_of};
 ghost use Rattle.model.specs.Evidence.{our_list};
 ghost use Rattle.model.specs.Paper.{paper};
 ghost use Rattle.checker.specs.Check.{check_of};
 ghost use Rattle.answers.specs.Calls.{check_call, status_call, support_call, conflict_call, write_call, write_buffer};
-ghost use Rattle.answers.specs.Answers.{status_of, support_of, conflict_of};
+ghost use Rattle.answers.specs.Answers.{status_of, support_of, conflict_of, PassesRow40};
 
-use checker::CheckAnswer;
 use finality::Backing;
-use model::{Place, Refusal, Status, WriteAnswer};
+use model::{Place, Refusal, Status};
 use state::Witness;
 
-// What the calls answer: a value, or the refusal.
-#[derive(Clone, Copy)]
-pub enum StatusAnswer {
-    Is(Status),
-    Refused(Refusal),
-}
-
-#[derive(Clone, Copy)]
-pub enum SupportAnswer {
-    Is(Backing),
-    Refused(Refusal),
-}
-
-#[derive(Clone, Copy)]
-pub enum ConflictAnswer {
-    Is(bool),
-    Refused(Refusal),
+// Row 40: whether the state is sound.
+fn sound(w: Witness) -> Result<(), Refusal>
+    ensures { PassesRow40 w result }
+{
+    if sound::is_sound(w) {
+        Ok(())
+    } else {
+        Err(Refusal::UnsoundState)
+    }
 }
 
 // Checking a list of charges: row 40, then 50 to 57 entry by entry; else the sum of the named bonds.
-pub fn check_list(w: Witness, list: &[u8]) -> CheckAnswer
+pub fn check_list(w: Witness, list: &[u8]) -> Result<u64, Refusal>
     ensures { check_of result ≡ check_call w list.now }
 {
-    if !sound::is_sound(w) {
-        return CheckAnswer::Refused(Refusal::UnsoundState);
-    }
-    checker::check_list(w, list)
+    sound(w)?;
+    checker::check_list(&w, list)
 }
 
 // The standing of a checkpoint: row 40, then 41 where the place isn't held.
-pub fn status(w: Witness, p: Place) -> StatusAnswer
+pub fn status(w: Witness, p: Place) -> Result<Status, Refusal>
     ensures { status_of result ≡ status_call w p.0 }
 {
-    if !sound::is_sound(w) {
-        return StatusAnswer::Refused(Refusal::UnsoundState);
-    }
+    sound(w)?;
     let place = p.0 as usize;
     let count = w.checkpoint_count;
     if count <= place {
-        return StatusAnswer::Refused(Refusal::PlaceNotHeld);
+        return Err(Refusal::PlaceNotHeld);
     }
-    StatusAnswer::Is(finality::status(w, p))
+    Ok(finality::status(w, p))
 }
 
 // The support of a link between two held places: the members that voted for it, their bonds, and whether it is a
 // quorum.
-pub fn support(w: Witness, s: Place, t: Place) -> SupportAnswer
+pub fn support(w: Witness, s: Place, t: Place) -> Result<Backing, Refusal>
     ensures { support_of result ≡ support_call w s.0 t.0 }
 {
-    if !sound::is_sound(w) {
-        return SupportAnswer::Refused(Refusal::UnsoundState);
-    }
+    sound(w)?;
     let from = s.0 as usize;
     let to = t.0 as usize;
     let count = w.checkpoint_count;
     if count <= from {
-        return SupportAnswer::Refused(Refusal::PlaceNotHeld);
+        return Err(Refusal::PlaceNotHeld);
     }
     if count <= to {
-        return SupportAnswer::Refused(Refusal::PlaceNotHeld);
+        return Err(Refusal::PlaceNotHeld);
     }
-    SupportAnswer::Is(finality::support(w, s, t))
+    Ok(finality::support(w, s, t))
 }
 
 // Whether any two final checkpoints conflict.
-pub fn conflict(w: Witness) -> ConflictAnswer
+pub fn conflict(w: Witness) -> Result<bool, Refusal>
     ensures { conflict_of result ≡ conflict_call w }
 {
-    if !sound::is_sound(w) {
-        return ConflictAnswer::Refused(Refusal::UnsoundState);
-    }
-    ConflictAnswer::Is(finality::conflict(w))
-}
-
-// Row 40, of the calls that write a text.
-fn refuse_to_write() -> WriteAnswer
-    ensures { write_answer_of result ≡ refused 40 }
-{
-    WriteAnswer::Refused(Refusal::UnsoundState)
+    sound(w)?;
+    Ok(finality::conflict(w))
 }
 
 // Our list of charges into a lent buffer: row 40, then 60 where the buffer is shorter, which leave it unwritten; else
 // the list's length.
-pub fn write_list(w: Witness, buf: &mut [u8]) -> WriteAnswer
+pub fn write_list(w: Witness, buf: &mut [u8]) -> Result<usize, Refusal>
     ensures { (write_answer_of result ≡ write_call our_list w buf.old)
         × (buf.new ≡ write_buffer our_list w buf.old) }
 {
-    if !sound::is_sound(w) {
-        return refuse_to_write();
-    }
-    evidence::our_list(w, buf)
+    sound(w)?;
+    evidence::our_list(&w, buf)
 }
 
 // The board paper into a lent buffer: row 40, then 60 where the buffer is shorter, which leave it unwritten; else the
 // paper's length.
-pub fn write_paper(w: Witness, buf: &mut [u8]) -> WriteAnswer
+pub fn write_paper(w: Witness, buf: &mut [u8]) -> Result<usize, Refusal>
     ensures { (write_answer_of result ≡ write_call paper w buf.old)
         × (buf.new ≡ write_buffer paper w buf.old) }
 {
-    if !sound::is_sound(w) {
-        return refuse_to_write();
-    }
+    sound(w)?;
     board::write_paper(w, buf)
 }

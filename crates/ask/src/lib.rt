@@ -6,6 +6,7 @@ ghost use Rattle.model.specs.Log.{header};
 ghost use Rattle.ask.specs.Book.{IsAnswers, book_buffer};
 
 use model::{MAX_MEMBERS, Place, Refusal, Status};
+use replay::{Read, Replayed};
 use state::{Outcome, Witness};
 
 // What can be asked of a log: what the last record read came to (of a bundle that is not refused whole, with the row
@@ -28,17 +29,18 @@ pub fn ask(w: Witness, log: &[u8], limit: u64, p: Place, theirs: &[u8], buf: &mu
     ensures { IsAnswers log.now limit p.0 theirs.now buf.old result
         × (buf.new ≡ book_buffer (header log.now) limit log.now buf.old) }
 {
-    let replayed = replay::replay(w, log, limit);
-    let start = replayed.start;
-    let read = replayed.read;
-    let last = read.last;
-    let rows = read.rows;
-    let held = read.witness;
+    let Replayed { start, read } = replay::replay(w, log, limit);
+    let Read {
+        last,
+        rows,
+        records,
+        witness: held,
+    } = read;
     match start {
         Ok(()) => Answers {
             last,
             rows,
-            records: read.records,
+            records,
             status: answers::status(held, p),
             conflict: answers::conflict(held),
             ours: answers::write_list(held, buf),

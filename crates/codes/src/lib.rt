@@ -15,7 +15,7 @@ use state::{Outcome, Passed, Witness};
 
 // An answer: the number of the refusal and 0, or 0 and the value.
 #[repr(C)]
-#[derive(Clone, Copy)]
+#[derive(Clone, Copy, Debug, PartialEq, Eq)]
 pub struct Answered {
     pub refused: u64,
     pub value: u64,
@@ -23,7 +23,7 @@ pub struct Answered {
 
 // The backing of a link, after the number of the refusal; `quorum` is 1 for yes.
 #[repr(C)]
-#[derive(Clone, Copy)]
+#[derive(Clone, Copy, Debug, PartialEq, Eq)]
 pub struct Backed {
     pub refused: u64,
     pub number: u64,
@@ -109,7 +109,7 @@ pub fn refused_by(r: Result<(), Refusal>) -> u64
 
 // What a record came to: the number of the refusal, 1 where it was taken and is no bundle, and how many votes a bundle
 // has.
-#[derive(Clone, Copy)]
+#[derive(Clone, Copy, Debug, PartialEq, Eq)]
 pub struct Tells {
     pub refused: u64,
     pub taken: u64,
@@ -189,13 +189,18 @@ impl From<Fed> for Piece {
     ghost from_gives = { λ f p. (g : Feeding) (at : ℕ) (before after : List ℕ) → IsFed g at 0 before f after → IsPiece g at before p after };
 
     fn from(f: Fed) -> Piece {
-        let pause = f.pause;
-        let witness = f.witness;
+        let Fed {
+            pause,
+            next,
+            records,
+            written,
+            witness,
+        } = f;
         Piece {
             pause: pause_number(pause),
-            next: f.next,
-            records: f.records,
-            written: f.written,
+            next,
+            records,
+            written,
             witness,
         }
     }

@@ -139,14 +139,12 @@ pub fn read_on(w: Witness, records: u64, log: &[u8], at: usize, buf: &mut [u8]) 
     while RECORD_ROOM <= buf.len() - end && k < LAST_NUMBER {
         let most = batch(buf.len() - end);
         let r = log_reader::read_from(held, log, next, LAST_NUMBER - k, &mut rows[..most]);
-        let end_of_batch = r.end;
-        let used = r.used;
         held = r.witness;
         next = r.next;
-        end = refused_lines(buf, end, k, &rows[..used]);
+        end = refused_lines(buf, end, k, &rows[..r.used]);
         k += r.records;
         // the next one cannot be passed
-        if let Some(outcome) = end_of_batch {
+        if let Some(outcome) = r.end {
             return halt(held, buf, end, next, k, outcome);
         }
     }

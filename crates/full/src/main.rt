@@ -490,6 +490,13 @@ fn left_by(log: &[u8]) -> Witness {
     replay::replay(blank::blank(), log, 5000).read.witness
 }
 
+// What the first `end` bytes of the log leave.
+fn left_by_first(log: &[u8], end: usize) -> Witness
+    requires { end ≤ length log.now }
+{
+    left_by(&log[..end])
+}
+
 fn print_standing(rt: HostRuntime, w: Witness) -> io::Result<()> {
     print_counts(rt, &w)?;
     print_statuses(rt, w)?;
@@ -500,7 +507,7 @@ fn print_standing(rt: HostRuntime, w: Witness) -> io::Result<()> {
 fn print_members(rt: HostRuntime, log: &[u8]) -> io::Result<()>
     requires { length log.now ≡ 342011 }
 {
-    let w = left_by(&log[..EXTRA_MEMBER]);
+    let w = left_by_first(log, EXTRA_MEMBER);
     print_counts(rt, &w)?;
     print_reading(rt, w, log, EXTRA_MEMBER)?;
     print_conflict(rt, w)
@@ -510,7 +517,7 @@ fn print_members(rt: HostRuntime, log: &[u8]) -> io::Result<()>
 fn print_standings(rt: HostRuntime, log: &[u8]) -> io::Result<()>
     requires { length log.now ≡ 342011 }
 {
-    print_standing(rt, left_by(&log[..EARLY]))?;
+    print_standing(rt, left_by_first(log, EARLY))?;
     print_standing(rt, left_by(log))
 }
 

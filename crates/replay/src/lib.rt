@@ -11,7 +11,7 @@ ghost use Rattle.guarantee.specs.LogRead.{read_on};
 ghost use Rattle.replay.specs.IsReplay.{shown, read_of, IsReplay};
 
 use model::{MAX_MEMBERS, Refusal};
-use state::{Outcome, Passed, Witness};
+use state::{Beginning, Outcome, Passed, Witness};
 
 // What reading came to: what the last record read came to (`Nothing` where none was read); where that is a bundle
 // that is not refused whole, the row that refused each of its votes, or 0; how many records were read; and the witness.
@@ -38,13 +38,12 @@ fn read_rest(w: Witness, log: &[u8], from: usize, limit: u64) -> Read
     let mut rows = [0u8; 1024];
     while at < log.len() && records < limit {
         let r = log_reader::read_from(held, log, at, limit - records, &mut rows);
-        let end = r.end;
         held = r.witness;
         at = r.next;
         last = r.last;
         votes = entries::last_votes(&rows, r.used, last);
         records += r.records;
-        if let Some(outcome) = end {
+        if let Some(outcome) = r.end {
             if at < log.len() {
                 return Read {
                     last: outcome,
@@ -76,16 +75,17 @@ pub struct Replayed {
 pub fn replay(w: Witness, log: &[u8], limit: u64) -> Replayed
     ensures { IsReplay w log.now limit result }
 {
-    let begun = state::begin(w, log);
-    let start = begun.outcome;
-    let empty = begun.witness;
+    let Beginning {
+        outcome: start,
+        witness,
+    } = state::begin(w, log);
     let read = match start {
-        Ok(()) => read_rest(empty, log, 37, limit),
+        Ok(()) => read_rest(witness, log, 37, limit),
         Err(_) => Read {
             last: Ok(Passed::Nothing),
             rows: [0u8; MAX_MEMBERS],
             records: 0,
-            witness: empty,
+            witness,
         },
     };
     Replayed { start, read }

@@ -10,7 +10,7 @@ ghost use Rattle.feeding.specs.Feed.{refused_by, paused_at, open_call, feed_call
 
 use feeding::{Fed, Pause};
 use model::Refusal;
-use state::Witness;
+use state::{Beginning, Witness};
 
 // The log's first bytes, the header among them: rows 1 to 3 end the report. `last` says that the log has no more bytes;
 // where it may have, fewer than a header's are not yet judged. Any witness may be handed in. The records begin at the
@@ -25,11 +25,9 @@ pub fn open(w: Witness, log: &[u8], last: bool, buf: &mut [u8]) -> Fed
     if buf.len() < 64 {
         return Fed::paused(Ok(Pause::Full), 0, 0, w);
     }
-    let begun = state::begin(w, log);
-    let outcome = begun.outcome;
-    let held = begun.witness;
+    let Beginning { outcome, witness } = state::begin(w, log);
     match outcome {
-        Ok(()) => Fed::paused(Ok(Pause::Wants), 37, 0, held),
+        Ok(()) => Fed::paused(Ok(Pause::Wants), 37, 0, witness),
         Err(r) => {
             let written = lines::stopped_line(buf, 0, r, 0);
             Fed {
@@ -37,7 +35,7 @@ pub fn open(w: Witness, log: &[u8], last: bool, buf: &mut [u8]) -> Fed
                 next: 0,
                 records: 0,
                 written,
-                witness: held,
+                witness,
             }
         }
     }

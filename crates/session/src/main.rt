@@ -101,7 +101,12 @@ fn yes_no(b: bool) -> &'static str {
 
 fn print_support(rt: HostRuntime, w: Witness, s: u16, t: u16) -> io::Result<()> {
     match answers::support(w, Place(s), Place(t)) {
-        Ok(b) => println!(rt; "{} members, bonds {} {}", b.number, b.bonds, yes_no(b.quorum)),
+        Ok(b) => println!(rt;
+            "{} members, bonds {} {}",
+            b.number,
+            b.bonds,
+            yes_no(b.quorum)
+        ),
         Err(r) => print_refused(rt, r),
     }
 }

@@ -18,9 +18,9 @@ returns-then-buf-lt64 c =
 pub returns-in-Ok : goal.returns-in-Ok
 returns-in-Ok c =
     let a = c.args in
-    open_begun a.w a.log.now a.last _ c.else-log-lt37.either c.if-buf-lt64.false c.begin-begun.ensures a.buf.now _ c.in-Ok.is (c.paused-in-Ok.ensures a.buf.now)
+    open_begun a.w a.log.now a.last _ c.else-log-lt37.either c.if-buf-lt64.false c.begin-outcome.ensures a.buf.now _ c.in-Ok.is (c.paused-in-Ok.ensures a.buf.now)
 
 pub returns-in-Err : goal.returns-in-Err
 returns-in-Err c =
     let a = c.args in
-    paused-fed _ 0 0 0 _ a.buf.now _ (Ok Ended) (open_refused a.w a.log.now a.last _ c.else-log-lt37.either c.if-buf-lt64.false c.begin-begun.ensures _ c.in-Err.is) c.stopped_line-written.ensures.0
+    paused-fed _ 0 0 0 _ a.buf.now _ (Ok Ended) (open_refused a.w a.log.now a.last _ c.else-log-lt37.either c.if-buf-lt64.false c.begin-outcome.ensures _ c.in-Err.is) c.stopped_line-written.ensures.0
