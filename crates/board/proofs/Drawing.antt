@@ -26,8 +26,7 @@ use Rattle.standing.proofs.Standing.{status-is}
 use Rattle.tables.specs.Places.{height_at}
 use Rattle.voters.specs.declared.Voters.{Voters}
 use Rattle.voters.specs.Bits.{among, count_below}
-use Rattle.voters.specs.Weights.{Bonds, weight_of}
-use Rattle.voters.proofs.Weights.{first_good, weight-first}
+use Rattle.voters.specs.Weights.{weight_of}
 use Rattle.tally.specs.declared.links.Weighed.{Weighed}
 use Rattle.tally.specs.declared.votes.Ballots.{Ballots}
 use Rattle.tally.specs.Chains.{voters_at, Walkable, Tallied}
@@ -36,7 +35,7 @@ use Rattle.tally.specs.Ready.{Ready}
 use Rattle.tally.specs.Weights.{heaviest, IsHeaviest}
 use Rattle.tally.proofs.Below.{heaviest_front}
 use Rattle.tally.proofs.Heaviest.{ready_best}
-use Rattle.tally.proofs.Ready.{ready-bonds, ready-walk}
+use Rattle.tally.proofs.Ready.{held_bonds, ready-walk}
 use Rattle.board.specs.Rows.{line_of, shown_at, row_in}
 use Rattle.board.specs.declared.rows.Row.{Row}
 use Rattle.board.proofs.RowLines.{held-row, missing_row}
@@ -48,7 +47,7 @@ pub record Drawn (w : Witness) (b : Ballots) (a : Analysis) (rows : List Row) (p
   pub few : w.checkpoint_count ≤ 512
   pub low : p ≤ w.checkpoint_count
   pub long : length rows ≡ 512
-  pub shown : (q : ℕ) → q < p → line_of q (shown_at rows q) ≡ checkpoint_row (model_of w) q
+  pub shown : (q : ℕ) → q < p → line_of (shown_at rows q) ≡ checkpoint_row (model_of w) q
 
 pub drawn_none : {w : Witness} {b : Ballots} {a : Analysis} {rows : List Row} → Ready w b → IsAnalysis (model_of w) a
     → length rows ≡ 512 → Drawn w b a rows 0
@@ -63,13 +62,6 @@ drawn_none {w} {b} {a} {rows} r is long =
     }
 
 module _ {w : Witness} {b : Ballots} {a : Analysis} {rows : List Row} {p : ℕ} (at : Drawn w b a rows p) where
-  -- the bonds of the members
-  abbrev bonds : List ℕ
-  bonds = take w.member_count w.bonds
-
-  pub drawn_bonds : Bonds bonds (length bonds)
-  drawn_bonds = first_good _ _ (ready-bonds at.ready)
-
   pub drawn_walk : p < w.checkpoint_count → Walkable b.who w.sources b.chains.next (get_or b.chains.head p 0)
   drawn_walk h = ready-walk at.ready p (omega arith)
 
@@ -78,11 +70,11 @@ module _ {w : Witness} {b : Ballots} {a : Analysis} {rows : List Row} {p : ℕ} 
       → length voters ≡ 512
       → p < w.checkpoint_count
       → Tallied b.who w.sources b.chains.next (get_or b.chains.head p 0) (voters_at voters)
-      → IsHeaviest bonds (length bonds) a.marks (voters_at (take p voters)) (length (take p voters)) r
+      → IsHeaviest (held_bonds w) (length (held_bonds w)) a.marks (voters_at (take p voters)) (length (take p voters)) r
       → s ≡ status_in a p
       → n ≡ count_below 128 (among r.voters)
       → Drawn w b a
-      (set rows p (record { height = get_or w.heights p (record { 0 = 0 }); status = s; number = n; bonds = r.bonds }))
+      (set rows p (record { place = record { 0 = p }; height = get_or w.heights p (record { 0 = 0 }); status = s; number = n; bonds = r.bonds }))
       (p + 1)
   unfolding checkpoint_row
   drawn_more voters {r} {s} {n} long h all best_is standing counted =
@@ -92,7 +84,7 @@ module _ {w : Witness} {b : Ballots} {a : Analysis} {rows : List Row} {p : ℕ} 
         few = at.few;
         low = omega arith;
         long = length-set rows p _ ∙ at.long;
-        shown = each_more (λ q row. line_of q row ≡ checkpoint_row (model_of w) q) _ p rows _ (omega (arith, at.long))
+        shown = each_more (λ q row. line_of row ≡ checkpoint_row (model_of w) q) _ p rows _ (omega (arith, at.long))
             here at.shown;
       }
     where
@@ -102,17 +94,13 @@ module _ {w : Witness} {b : Ballots} {a : Analysis} {rows : List Row} {p : ℕ} 
       marked : (s : ℕ) → s < p → justified_at a.marks s ≡ justified? (model_of w) s
       marked s l = at.standings.justified s (omega (arith, held))
 
-      -- those voters by all bonds and all places are those of the lists lent
       weight : Voters → ℕ
-      weight v = weight_of w.bonds w.member_count v
+      weight v = weight_of (held_bonds w) (length (held_bonds w)) v
 
-      best : heaviest (weight_of bonds (length bonds)) a.marks (voters_at (take p voters)) (length (take p voters))
+      -- the heaviest of the places below p are those of the list lent
+      best : heaviest weight a.marks (voters_at (take p voters)) (length (take p voters))
           ≡ heaviest weight a.marks (voters_at voters) p
-      best =
-          let same : weight_of bonds (length bonds) ≡ weight =
-          λ i v. weight-first w.bonds w.member_count (ready-bonds at.ready) v i in
-          ap (λ (f : Voters → ℕ). heaviest f a.marks (voters_at (take p voters)) (length (take p voters))) same
-          ∙ heaviest_front voters p (omega (arith, long, at.few)) weight a.marks
+      best = heaviest_front voters p (omega (arith, long, at.few)) weight a.marks
 
       is : (count_below 128 (among (heaviest weight a.marks (voters_at voters) p)) ≡ (best_support (model_of w) p).number)
           × (weight (heaviest weight a.marks (voters_at voters) p) ≡ (best_support (model_of w) p).bonds)
@@ -125,8 +113,7 @@ module _ {w : Witness} {b : Ballots} {a : Analysis} {rows : List Row} {p : ℕ} 
           let height : height_at w.heights p ≡ height_of m.checkpoints p =
           sym (ap (λ (c : Checkpoint). c.height) (checkpoint-is w p h)) in
           let number = counted ∙ ap (λ (v : Voters). count_below 128 (among v)) top ∙ is.0 in
-          let weighed = best_is.0 ∙ weight-first w.bonds w.member_count (ready-bonds at.ready) r.voters
-          ∙ ap weight top ∙ is.1 in
+          let weighed = best_is.0 ∙ ap weight top ∙ is.1 in
           ap₂ (λ (h : ℕ) (s : Status). row_text p h s n r.bonds) height (standing ∙ status-is m a at.standings p held)
           ∙ ap₂ (row_text p (height_of m.checkpoints p) (status m p)) number weighed
 
@@ -137,7 +124,7 @@ module _ {w : Witness} {b : Ballots} {a : Analysis} {rows : List Row} {p : ℕ} 
       (λ h.
       rw (lt-ltb q (length (model_of w).checkpoints) (omega (arith, count-checkpoints w)))
       (sym (held-row front q (omega (arith, many)))
-      ∙ ap (line_of q) (get_or-take w.checkpoint_count rows q _ h)
+      ∙ ap line_of (get_or-take w.checkpoint_count rows q _ h)
       ∙ at.shown q (omega arith)))
       (λ h.
       rw (le-ltb q (length (model_of w).checkpoints) (omega (arith, count-checkpoints w)))

@@ -11,7 +11,7 @@ use Rattle.board.specs.declared.rows.Row.{Row}
 
 module _ (rows : List Row) (p : ℕ) where
   -- a row that is there
-  pub held-row : p < length rows → line_of p (shown_at rows p) ≡ row_in rows p
+  pub held-row : p < length rows → line_of (shown_at rows p) ≡ row_in rows p
   unfolding row_in
   held-row h = rw (lt-ltb p (length rows) h)
 

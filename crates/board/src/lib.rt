@@ -16,7 +16,7 @@ ghost use Rattle.board.specs.Rows.{row_in};
 
 use crate::lines::{put_heading, put_row, put_rule};
 use crate::rows::Row;
-use model::{Place, Refusal};
+use model::Refusal;
 use state::Witness;
 
 // A line has 64 columns and a newline, and a page 48 rows between its heading and its foot.
@@ -28,15 +28,14 @@ const PAGE: usize = (ROWS + 2) * LINE;
 
 // The rows of a page, for the places from `from` on; where no checkpoint stands, a row is blank.
 fn put_rows(rows: &[Row], buf: &mut [u8], at: usize, from: usize) -> usize
-    requires { (length rows.now ≤ checkpoint_limit) × (from ≤ checkpoint_limit) × (at + 65 * 48 ≤ length buf.old) }
+    requires { (from ≤ checkpoint_limit) × (at + 65 * 48 ≤ length buf.old) }
     ensures { Put buf.old at (concat_below 48 (λ i. row_in rows.now (from + i))) buf.new result
         × (result ≡ at + 65 * 48) }
 {
     let mut next = at;
     for i in 0..ROWS {
-        let p = from + i;
-        next = match rows.get(p) {
-            Some(row) => put_row(buf, next, Place(p as u16), row),
+        next = match rows.get(from + i) {
+            Some(row) => put_row(buf, next, row),
             None => put_rule(buf, next, b' '),
         };
     }
@@ -45,9 +44,7 @@ fn put_rows(rows: &[Row], buf: &mut [u8], at: usize, from: usize) -> usize
 
 // The page that comes after k others.
 fn put_page(rows: &[Row], buf: &mut [u8], at: usize, k: usize) -> usize
-    requires { (length rows.now ≤ checkpoint_limit)
-        × (48 * k < checkpoint_limit)
-        × (at + 3250 ≤ length buf.old) }
+    requires { (48 * k < checkpoint_limit) × (at + 3250 ≤ length buf.old) }
     ensures { Put buf.old at (page (row_in rows.now) k) buf.new result × (result ≡ at + 3250) }
 {
     let one = put_heading(buf, at, (k + 1) as u64);
@@ -57,9 +54,7 @@ fn put_page(rows: &[Row], buf: &mut [u8], at: usize, k: usize) -> usize
 
 // So many pages, from the start of the buffer on.
 fn put_pages(rows: &[Row], buf: &mut [u8], pages: usize) -> usize
-    requires { (length rows.now ≤ checkpoint_limit)
-        × (48 * pages < checkpoint_limit + 48)
-        × (3250 * pages ≤ length buf.old) }
+    requires { (48 * pages < checkpoint_limit + 48) × (3250 * pages ≤ length buf.old) }
     ensures { Put buf.old 0 (concat_below pages (page (row_in rows.now))) buf.new result × (result ≡ 3250 * pages) }
 {
     let mut at: usize = 0;

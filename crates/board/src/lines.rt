@@ -6,7 +6,7 @@ ghost use Rattle.text.specs.Put.{Put};
 ghost use Rattle.board.specs.Rows.{line_of};
 
 use crate::rows::Row;
-use model::{Place, Status};
+use model::Status;
 use text::{fill, put, put_number, put_right};
 
 // A number in its columns, and the two blanks before the next field.
@@ -31,14 +31,14 @@ fn put_standing(buf: &mut [u8], at: usize, s: Status) -> usize
 }
 
 // The row of a checkpoint.
-pub fn put_row(buf: &mut [u8], at: usize, p: Place, row: &Row) -> usize
+pub fn put_row(buf: &mut [u8], at: usize, row: &Row) -> usize
     requires { at + 65 ≤ length buf.old }
-    ensures { Put buf.old at (line_of p.0 row.now) buf.new result × (result ≡ at + 65) }
+    ensures { Put buf.old at (line_of row.now) buf.new result × (result ≡ at + 65) }
 {
-    let one = put_field(buf, at, 5, p.0 as u64);
-    let two = put_field(buf, one, 10, row.height.0 as u64);
+    let one = put_field(buf, at, 5, u64::from(row.place.0));
+    let two = put_field(buf, one, 10, u64::from(row.height.0));
     let three = put_standing(buf, two, row.status);
-    let four = put_field(buf, three, 5, row.number as u64);
+    let four = put_field(buf, three, 5, u64::from(row.number));
     let five = put_right(buf, four, 24, row.bonds);
     put(buf, five, b"\n")
 }

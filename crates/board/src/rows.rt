@@ -10,10 +10,11 @@ use state::Witness;
 use tally::{links, votes};
 use voters::Voters;
 
-// What the paper shows of a checkpoint: the height, the standing, and how many members, with how much bond, are behind
+// What the paper shows of a checkpoint: its place and height, the standing, and how many members, with how much bond, are behind
 // the link that is shown: the one into the place from a justified source with the largest bond.
 #[derive(Clone, Copy, Debug, PartialEq, Eq)]
 pub struct Row {
+    pub place: Place,
     pub height: Height,
     pub status: Status,
     pub number: u8,
@@ -23,6 +24,7 @@ pub struct Row {
 impl Row {
     // Of a place of which nothing is known yet.
     pub const NONE: Row = Row {
+        place: Place(0),
         height: Height(0),
         status: Status::Plain,
         number: 0,
@@ -46,6 +48,7 @@ pub fn rows(w: &Witness) -> [Row; MAX_CHECKPOINTS]
         votes::gather(&b, &w.sources, place, &mut voters);
         let best = links::heaviest(&voters[..p], &a.marks, bonds);
         rows[p] = Row {
+            place,
             height: w.heights[p],
             status: a.status_of(place),
             number: best.voters.count() as u8,

@@ -49,7 +49,7 @@ pub fn support(w: Witness, s: Place, t: Place) -> Backing
     let b = votes::prepare(&w);
     let mut voters = [Voters::NOBODY; MAX_CHECKPOINTS];
     votes::gather(&b, &w.sources, t, &mut voters);
-    backed_by(voters[s.0 as usize], bonds, b.bar)
+    backed_by(voters[usize::from(s.0)], bonds, b.bar)
 }
 
 // The standing of a held place.
@@ -68,5 +68,5 @@ pub fn conflict(w: Witness) -> bool
 {
     let a = statuses(&w);
     let f = finals::last_final(&a.marks[..w.checkpoint_count]);
-    finals::strays(&a.marks[..f.0 as usize], &w.parents, f)
+    finals::strays(&a.marks[..usize::from(f.0)], &w.parents, f)
 }

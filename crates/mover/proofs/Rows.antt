@@ -7,8 +7,9 @@ use mathlib.Core.List.{List, [], ◌∷◌}
 use mathlib.Core.Bool.{Bool, true, false, cond, ◌&&◌, ◌||◌, not}
 use borrow.Author.Tests.{lt-ltb, le-ltb}
 use lib.Dec.{ltb}
-use lib.ListN.{length, get_or}
+use lib.ListN.{length, get_or, length-map}
 use Rattle.model.specs.Decide.{bars_root, uses_dropped, risks_evidence, dropped_higher, drops_higher}
+use Rattle.model.specs.Evidence as Model
 use Rattle.model.specs.Evidence.{charges}
 use Rattle.model.specs.Exact.{ShowsFirst}
 use Rattle.model.specs.Finality.{final?, justified?, status, conflicting?}
@@ -19,7 +20,7 @@ use Rattle.model.specs.Move.{kept_vote?}
 use Rattle.model.specs.declared.Status.{Status}
 use Rattle.model.specs.declared.Status.TheVariants.{Plain, Justified, Final}
 use Rattle.model.proofs.Charges.{charges-first}
-use Rattle.model.proofs.Lists.{any-tabulate, tabulate-at, length-tabulate, or_right, or_nothing}
+use Rattle.model.proofs.Lists.{any-tabulate, tabulate-list, or_right, or_nothing}
 use Rattle.search.proofs.Pointwise.{any_same}
 use Rattle.tables.specs.Places.{place_at, height_at}
 use Rattle.state.specs.Sound.{Sound}
@@ -28,16 +29,31 @@ use Rattle.state.specs.declared.Witness.{Witness}
 use Rattle.state.proofs.Entries.{count-votes, vote-is}
 use Rattle.state.proofs.Held.{heights-held}
 use Rattle.state.proofs.Sound.{source-held, target-held}
-use Rattle.evidence.specs.Listed.{charge_in, charges_of}
-use Rattle.evidence.specs.declared.Charges.{Charges}
+use Rattle.evidence.specs.Listed.{charge_in, charges_in}
+use Rattle.evidence.specs.declared.Charge.{Charge}
 use Rattle.pruning.specs.Kept.{IsKept}
 use Rattle.pruning.specs.declared.Kept.{Kept}
-use Rattle.mover.specs.Moved.{VotesKept, ChargesWithin, shows_dropped}
+use Rattle.mover.specs.Moved.{VotesKept, charge_at, ChargesWithin, shows_dropped}
 
-all-index : {A : Type 0} {P : A → Type 0} (xs : List A) (d : A) (i : ℕ) → All P xs → i < length xs → P (get_or xs i d)
-all-index [] d i none h = absurd (omega arith)
-all-index (x ∷ xs) d zero (each p ps) h = p
-all-index (x ∷ xs) d (suc i) (each p ps) h = all-index xs d i ps (omega arith)
+all_in : {P : Model.Charge → Type 0} (cs : List Charge) (i : ℕ) → All P (charges_in cs) → i < length cs → P (charge_in (charge_at cs i))
+all_in [] i none h = absurd (omega arith)
+all_in (c ∷ cs) zero (each p ps) h = p
+all_in (c ∷ cs) (suc i) (each p ps) h = all_in cs i ps (omega arith)
+
+read_at : (cs : List Charge) (i : ℕ) → charge_in (charge_at cs i) ≡ get_or (charges_in cs) i (record { id = 0; earlier = 0; later = 0 })
+read_at [] i = refl
+read_at (c ∷ cs) zero = refl
+read_at (c ∷ cs) (suc i) = read_at cs i
+
+tabulated : (cs : List Charge) → tabulate (length cs) (λ i. charge_in (charge_at cs i)) ≡ charges_in cs
+tabulated cs =
+    let f = λ (i : ℕ). charge_in (charge_at cs i) in
+    ap (λ (n : ℕ). tabulate n f) (sym (length-map cs charge_in)) ∙ tabulate-list f _ (charges_in cs) (λ i h. read_at cs i)
+
+any_charges : (p : Model.Charge → Bool) (cs : List Charge) → any p (charges_in cs) ≡ any_below (length cs) (λ i. p (charge_in (charge_at cs i)))
+any_charges p cs =
+    ap (any p) (sym (tabulated cs))
+    ∙ any-tabulate p (length cs) (λ i. charge_in (charge_at cs i))
 
 -- whether a standing is final
 abbrev pub final-status : Status → Bool
@@ -95,29 +111,24 @@ module _ (w : Witness) (s : Sound w) (r : ℕ) where
 
     -- ---- row 71, the charges
 
-    module _ (c : Charges) (ours : charges_of c ≡ charges (model_of w)) where
-      shows : (i : ℕ) → i < c.count → ShowsFirst (model_of w) (charge_in c i)
-      unfolding charges_of
-      shows i h =
-          subst (ShowsFirst (model_of w)) (tabulate-at c.count (charge_in c) (charge_in c 0) i h)
-          (all-index (tabulate c.count (charge_in c)) (charge_in c 0) i
-          (subst (All (ShowsFirst (model_of w))) (sym ours) (charges-first (model_of w)))
-          (omega (arith, length-tabulate c.count (charge_in c))))
+    module _ (cs : List Charge) (ours : charges_in cs ≡ charges (model_of w)) where
+      shows : (i : ℕ) → i < length cs → ShowsFirst (model_of w) (charge_in (charge_at cs i))
+      shows i h = all_in cs i (subst (All (ShowsFirst (model_of w))) (sym ours) (charges-first (model_of w))) h
 
-      later-held : (i : ℕ) → i < c.count → get_or c.later i 0 < w.vote_count
+      later-held : (i : ℕ) → i < length cs → (charge_at cs i).later < w.vote_count
       later-held i h = omega (arith, (shows i h).pair.held, count-votes w)
 
-      earlier-held : (i : ℕ) → i < c.count → get_or c.earlier i 0 < w.vote_count
+      earlier-held : (i : ℕ) → i < length cs → (charge_at cs i).earlier < w.vote_count
       earlier-held i h = omega (arith, (shows i h).pair.order, later-held i h)
 
-      pub charges-within : ChargesWithin w.vote_count c
+      pub charges-within : ChargesWithin w.vote_count cs
       charges-within i h = (earlier-held i h, later-held i h)
 
       stays_at : (i : ℕ) → i < w.vote_count
           → kept_vote? (model_of w).checkpoints r (vote_at (model_of w).votes i) ≡ get_or votes i false
       stays_at i h = ap (kept_vote? (model_of w).checkpoints r) (vote-is w i h) ∙ sym (kept i h)
 
-      uses_at : (i : ℕ) → i < c.count → uses_dropped (model_of w) r (charge_in c i) ≡ shows_dropped votes c i
+      uses_at : (i : ℕ) → i < length cs → uses_dropped (model_of w) r (charge_in (charge_at cs i)) ≡ shows_dropped votes cs i
       unfolding uses_dropped
       uses_at i h =
           ap₂ ◌||◌ (ap not (stays_at _ (earlier-held i h))) (ap not (stays_at _ (later-held i h)))
@@ -125,16 +136,16 @@ module _ (w : Witness) (s : Sound w) (r : ℕ) where
       -- the conflict answer, or what the charges show
       pub risks_evidence_lem : {clash dropped : Bool}
           → clash ≡ conflicting? (model_of w)
-          → dropped ≡ any_below c.count (shows_dropped votes c)
+          → dropped ≡ any_below (length cs) (shows_dropped votes cs)
           → (clash || dropped) ≡ risks_evidence (model_of w) r
-      unfolding charges_of risks_evidence
+      unfolding risks_evidence
       risks_evidence_lem clash dropped =
           ap₂ ◌||◌ clash
           (dropped
           ∙ sym
           (ap (any (uses_dropped (model_of w) r)) (sym ours)
-          ∙ any-tabulate (uses_dropped (model_of w) r) c.count (charge_in c)
-          ∙ any_same c.count _ _ uses_at))
+          ∙ any_charges (uses_dropped (model_of w) r) cs
+          ∙ any_same (length cs) _ _ uses_at))
 
   -- ---- row 70
 
@@ -145,6 +156,7 @@ module _ (w : Witness) (s : Sound w) (r : ℕ) where
       (or_right (not (final? (model_of w) r)) _
       (ap (ltb root_height_limit) (height-is r held) ∙ lt-ltb root_height_limit _ h))
 
+  -- not higher: by whether the standing is another than final
   pub low-enough : r < w.checkpoint_count → height_at w.heights r ≤ root_height_limit
       → {s : Status} → s ≡ status (model_of w) r → not (final-status s) ≡ bars_root (model_of w) r
   unfolding bars_root

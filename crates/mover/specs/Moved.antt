@@ -1,6 +1,6 @@
 -- What a move of the root gives back: the outcome in document 01's numbers, and the witness. And which votes stay, as
 -- the code holds that.
-use Rattle.std.specs.Prelude.{ℕ, ◌<◌, ◌≡◌, List, Bool, false, ◌||◌, not, get_or, Result, Err}
+use Rattle.std.specs.Prelude.{ℕ, ◌<◌, ◌≡◌, List, Bool, false, ◌||◌, not, length, get_or, Result, Err}
 use Rattle.model.specs.Answer.{Answer}
 use Rattle.model.specs.Change.{Decision}
 use Rattle.model.specs.Move.{kept_vote?}
@@ -9,7 +9,7 @@ use Rattle.model.specs.declared.Refusal.{Refusal}
 use Rattle.state.specs.Reading.{Brief, one_taken, brief}
 use Rattle.state.specs.State.{model_of, vote_in, stored}
 use Rattle.state.specs.declared.Witness.{Witness}
-use Rattle.evidence.specs.declared.Charges.{Charges}
+use Rattle.evidence.specs.declared.Charge.{Charge}
 use Rattle.mover.specs.declared.Moved.{Moved}
 
 -- a move that is not refused is told as any change that is taken
@@ -30,10 +30,14 @@ abbrev pub VotesKept : Witness → ℕ → List Bool → Type 0
 VotesKept w r votes =
     (i : ℕ) → i < w.vote_count → get_or votes i false ≡ kept_vote? (model_of w).checkpoints r (vote_in w i)
 
+-- the i-th charge
+abbrev pub charge_at : List Charge → ℕ → Charge
+charge_at cs i = get_or cs i (record { id = 0; earlier = 0; later = 0 })
+
 -- the charges are of votes with numbers below n
-abbrev pub ChargesWithin : ℕ → Charges → Type 0
-ChargesWithin n c = (i : ℕ) → i < c.count → (get_or c.earlier i 0 < n) × (get_or c.later i 0 < n)
+abbrev pub ChargesWithin : ℕ → List Charge → Type 0
+ChargesWithin n cs = (i : ℕ) → i < length cs → ((charge_at cs i).earlier < n) × ((charge_at cs i).later < n)
 
 -- the i-th charge shows a vote that does not stay
-abbrev pub shows_dropped : List Bool → Charges → ℕ → Bool
-shows_dropped votes c i = not (get_or votes (get_or c.earlier i 0) false) || not (get_or votes (get_or c.later i 0) false)
+abbrev pub shows_dropped : List Bool → List Charge → ℕ → Bool
+shows_dropped votes cs i = not (get_or votes (charge_at cs i).earlier false) || not (get_or votes (charge_at cs i).later false)

@@ -14,12 +14,11 @@ use Rattle.state.proofs.Entries.{count-checkpoints, checkpoint-is}
 use Rattle.state.proofs.Sound.{few-checkpoints}
 use Rattle.voters.specs.declared.Voters.{Voters}
 use Rattle.voters.specs.Weights.{carried}
-use Rattle.voters.proofs.Weights.{carried-first}
 use Rattle.tally.specs.declared.votes.Ballots.{Ballots}
 use Rattle.tally.specs.Chains.{voters_at, Walkable, Tallied}
 use Rattle.tally.specs.Ready.{Ready}
 use Rattle.tally.proofs.Below.{any_front}
-use Rattle.tally.proofs.Ready.{ready-bonds, ready-walk, ready-link, ready-parent}
+use Rattle.tally.proofs.Ready.{held_bonds, ready-walk, ready-link, ready-parent}
 use Rattle.tally.specs.declared.links.Mark.{Mark}
 use Rattle.tally.specs.Marks.{justified_at, finalizing_at}
 use Rattle.standing.specs.Answers.{IsAnalysis}
@@ -51,10 +50,6 @@ module _ {w : Witness} {b : Ballots} {marks : List Mark} {t : ℕ}
       → IsAnalysis (model_of w) (record { marks = marks })
   turn_last h = marked_all (model_of w) at.ready.sound.good (count-checkpoints w) at.few h at.low at.marked
 
-  -- the bonds of the members
-  abbrev bonds : List ℕ
-  bonds = take w.member_count w.bonds
-
   module _ (inside : t < w.checkpoint_count) where
     -- the chain of its votes can be walked
     pub turn-walk : Walkable b.who w.sources b.chains.next (get_or b.chains.head t 0)
@@ -69,7 +64,7 @@ module _ {w : Witness} {b : Ballots} {marks : List Mark} {t : ℕ}
 
     -- whether the voters of the link from s carry it
     abbrev leads : (ℕ → Voters) → ℕ → Bool
-    leads tally s = carried bonds (length bonds) b.bar (tally s)
+    leads tally s = carried (held_bonds w) (length (held_bonds w)) b.bar (tally s)
 
     -- the voters of the links to t say whether it is justified, and whether a link joins its parent to it
     pub turn_more : (voters : List Voters) {reached hit : Bool}
@@ -84,7 +79,7 @@ module _ {w : Witness} {b : Ballots} {marks : List Mark} {t : ℕ}
     turn_more voters long all reaches hits =
         let few : t < 512 = omega arith in
         let tally = voters_at voters in
-        let p : ℕ → Voters → Bool = λ s v. justified_at marks s && carried bonds (length bonds) b.bar v in
+        let p : ℕ → Voters → Bool = λ s v. justified_at marks s && carried (held_bonds w) (length (held_bonds w)) b.bar v in
         record {
           ready = at.ready;
           few = at.few;
@@ -96,7 +91,7 @@ module _ {w : Witness} {b : Ballots} {marks : List Mark} {t : ℕ}
               few
               (sym (ap (λ (c : Checkpoint). c.parent) (checkpoint-is w t inside)))
               turn-parent
-              (λ s l. carried-first _ _ (ready-bonds at.ready) _ _ ∙ ready-link at.ready t tally few all s l)
+              (ready-link at.ready t tally few all)
               (reaches ∙ any_front voters t (omega arith) p)
               hits
               at.marked;

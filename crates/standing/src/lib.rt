@@ -35,7 +35,7 @@ pub fn analyse(w: &Witness, b: &Ballots) -> Analysis
         let mut voters = [Voters::NOBODY; MAX_CHECKPOINTS];
         votes::gather(b, &w.sources, Place(t as u16), &mut voters);
         marks[t].justified = links::reaches(&voters[..t], &marks, bonds, b.bar);
-        let p = w.parents[t].0 as usize;
+        let p = usize::from(w.parents[t].0);
         marks[p].finalizing |= voters[p].carries(bonds, b.bar);
     }
     Analysis { marks }
@@ -55,7 +55,7 @@ impl Analysis {
         requires { p.0 < checkpoint_limit }
         ensures { result ≡ status_in self.now p.0 }
     {
-        let mark = self.marks[p.0 as usize];
+        let mark = self.marks[usize::from(p.0)];
         if mark.is_final() {
             return Status::Final;
         }

@@ -1,7 +1,7 @@
 -- The walk of the chain of one target's votes: it gathers the voters of every link to the target.
-use Prim.Native.Nat.{ℕ, ◌-◌, ◌<◌, ◌≤◌}
+use Prim.Native.Nat.{ℕ, ◌+◌, ◌-◌, ◌<◌, ◌≤◌}
 use native.Mathlib.Omega.{arith}
-use mathlib.Core.Path.{◌≡◌, refl, sym, ap, ◌∙◌, subst}
+use mathlib.Core.Path.{◌≡◌, refl, sym, ap, ap₂, ◌∙◌, subst}
 use mathlib.Core.Logic.{⊎_elim}
 use mathlib.Core.List.{List}
 use mathlib.Core.Bool.{Bool, true, false, ◌&&◌, ◌||◌, or-false, and-true, and-false}
@@ -43,7 +43,7 @@ module _ (who : List ℕ) (sources : List Place) (next : List ℕ) (first : ℕ)
       nobody-at s inside = ap (λ (x : List Voters). voters_at x s) l ∙ get_or-replicate 512 s nobody nobody inside
 
   -- one vote more: it is its member's, for the link from its source
-  pub gathered_more : (at : ℕ) (voters : List Voters) (v : Voters)
+  gathered_more : (at : ℕ) (voters : List Voters) (v : Voters)
       → 0 < at
       → Walkable who sources next first
       → Gathered who sources next first voters at
@@ -92,6 +92,23 @@ module _ (who : List ℕ) (sources : List Place) (next : List ℕ) (first : ℕ)
           ∙ sym
           (ap (◌||◌ (among (tally s) i)) (ap (◌&&◌ (eqb (get_or who k 0) i)) e ∙ and-false (eqb (get_or who k 0) i))
           ∙ or-false (among (tally s) i))
+
+  -- the same, by the numbers that the code has read
+  pub gathered_next : (at k src i : ℕ) (voters : List Voters) (v : Voters)
+      → k + 1 ≡ at
+      → src ≡ place_at sources k
+      → i ≡ get_or who k 0
+      → Walkable who sources next first
+      → Gathered who sources next first voters at
+      → ((j : ℕ) → among v j ≡ (among (voters_at voters src) j || eqb j i))
+      → Gathered who sources next first (set voters src v) (get_or next k 0)
+  gathered_next at k src i voters v e from of walk so with =
+      let is : k ≡ at - 1 = omega arith in
+      let source = from ∙ ap (place_at sources) is in
+      let member = of ∙ ap (λ (x : ℕ). get_or who x 0) is in
+      rw (source, is)
+      (gathered_more at voters v (omega arith) walk so
+      (λ j. with j ∙ ap₂ ◌||◌ (ap (λ (x : ℕ). among (voters_at voters x) j) source) (ap (eqb j) member)))
 
   pub gathered_all : {at : ℕ} {voters : List Voters}
       → at ≤ 0 → Gathered who sources next first voters at → Tallied who sources next first (voters_at voters)

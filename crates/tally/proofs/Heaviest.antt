@@ -8,7 +8,7 @@ use mathlib.Core.Logic.{⊎_elim}
 use mathlib.Core.List.{List}
 use mathlib.Core.Bool.{Bool, true, false, cond}
 use borrow.Author.Tests.{lt-ltb, le-ltb}
-use lib.ListN.{get_or}
+use lib.ListN.{length, get_or}
 use Rattle.model.specs.Finality.{justified?}
 use Rattle.model.specs.Paper.{larger, best_below, best_support}
 use Rattle.model.specs.Support.{Support, support, unsupported}
@@ -28,7 +28,7 @@ use Rattle.tally.specs.Ready.{Ready}
 use Rattle.tally.specs.declared.links.Mark.{Mark}
 use Rattle.tally.specs.Marks.{justified_at}
 use Rattle.tally.specs.Weights.{heavier, heaviest}
-use Rattle.tally.proofs.Ready.{ready-support}
+use Rattle.tally.proofs.Ready.{held_bonds, ready-support}
 
 module _ (weight : Voters → ℕ) where
   pub heavier-first : {one other : Voters} → weight other ≤ weight one → heavier weight one other ≡ one
@@ -65,7 +65,7 @@ module _ {w : Witness} {b : Ballots} (r : Ready w b) (t : ℕ) (tally : ℕ → 
     (all : Tallied b.who w.sources b.chains.next (get_or b.chains.head t 0) tally)
     (marks : List Mark) (marked : (s : ℕ) → s < t → justified_at marks s ≡ justified? (model_of w) s) where
   abbrev weight : Voters → ℕ
-  weight v = weight_of w.bonds w.member_count v
+  weight v = weight_of (held_bonds w) (length (held_bonds w)) v
 
   -- voters who are as many as a support says, with as much bond
   abbrev Agrees : Voters → Support → Type 0
@@ -75,7 +75,7 @@ module _ {w : Witness} {b : Ballots} (r : Ready w b) (t : ℕ) (tally : ℕ → 
   agrees_nobody = (
     sum-zero 128 (among nobody) (λ i. 1) (λ i l. among_none i),
     sym
-        (nobody_weighs w.bonds w.member_count nobody refl refl),
+        (nobody_weighs (held_bonds w) (length (held_bonds w)) nobody refl refl),
   )
 
   agrees_source : (s : ℕ) → s < 512 → Agrees (tally s) (support (model_of w) s t)

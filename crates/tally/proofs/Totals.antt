@@ -54,7 +54,7 @@ module _ (w : Witness) where
 
   pub bar-is : {k : Quota} {whole : ℕ} → k ≡ quota_of (rule_of (quota_in w.numbers))
       → whole ≡ sum_below w.member_count (λ i. true) (λ i. get_or w.bonds i 0)
-      → IsBar (model_of w) (record { p = k.p; q = k.q; total = whole })
+      → IsBar (model_of w) (record { quota = k; total = whole })
   unfolding model_of
   bar-is parts e = record { parts = parts; whole = e ∙ all-sum }
 

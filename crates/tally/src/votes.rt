@@ -40,7 +40,7 @@ pub fn bucket(targets: &[Place]) -> Buckets
     let mut head = [0u16; MAX_CHECKPOINTS];
     let mut next = [0u16; MAX_VOTES];
     for (k, target) in targets.iter().enumerate() {
-        let at = target.0 as usize;
+        let at = usize::from(target.0);
         next[k] = head[at];
         head[at] = (k + 1) as u16;
     }
@@ -65,13 +65,11 @@ pub fn prepare(w: &Witness) -> Ballots
     let bonds = &w.bonds[..w.member_count];
     let voters = &w.voters[..w.vote_count];
     let targets = &w.targets[..w.vote_count];
-    let quota = quota_of(w.numbers);
     Ballots {
         who: member_places(ids, voters),
         chains: bucket(targets),
         bar: Bar {
-            p: quota.p as u64,
-            q: quota.q as u64,
+            quota: quota_of(w.numbers),
             total: total_bond(bonds),
         },
     }
@@ -85,11 +83,11 @@ pub fn gather(b: &Ballots, sources: &[Place], t: Place, voters: &mut [Voters])
     requires blank { voters.old ≡ no_voters }
     ensures { Tallied b.now.who sources.now b.now.chains.next (get_or b.now.chains.head t.0 0) (voters_at voters.new) }
 {
-    let mut at = b.chains.head[t.0 as usize];
-    while 0 < at {
-        let k = (at - 1) as usize;
-        let source = sources[k].0 as usize;
-        voters[source].insert(b.who[k] as usize);
+    let mut at = b.chains.head[usize::from(t.0)];
+    while let Some(vote) = at.checked_sub(1) {
+        let k = usize::from(vote);
+        let source = usize::from(sources[k].0);
+        voters[source].insert(usize::from(b.who[k]));
         at = b.chains.next[k];
     }
 }

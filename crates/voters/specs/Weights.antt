@@ -3,7 +3,6 @@ use Rattle.std.specs.Prelude.{ℕ, ◌*◌, ◌<◌, ◌≤◌, ◌≡◌, List,
 use Rattle.model.specs.Limits.{member_limit, bond_limit, part_limit}
 use Rattle.model.specs.Model.{Model, quota}
 use Rattle.model.specs.Support.{total, quorum}
-use Rattle.model.specs.declared.Quota.{Quota}
 use Rattle.voters.specs.declared.Voters.{Voters}
 use Rattle.voters.specs.declared.Bar.{Bar}
 use Rattle.voters.specs.Bits.{among, sum_below}
@@ -18,24 +17,20 @@ pub record Bonds (bonds : List ℕ) (members : ℕ) : Type 0 where
 abbrev pub weight_of : List ℕ → ℕ → Voters → ℕ
 weight_of bonds members v = sum_below members (among v) (λ i. get_or bonds i 0)
 
--- p of q parts
-abbrev pub parts_of : Bar → Quota
-parts_of bar = record { p = bar.p; q = bar.q }
-
 -- a bar whose numbers are small enough to be multiplied
 pub record Fits (bar : Bar) : Type 0 where
-  pub p : bar.p ≤ part_limit
-  pub q : bar.q ≤ part_limit
+  pub p : bar.quota.p ≤ part_limit
+  pub q : bar.quota.q ≤ part_limit
   pub whole : bar.total ≤ member_limit * bond_limit
 
 -- the bar by a model's rule and members
 pub record IsBar (m : Model) (bar : Bar) : Type 0 where
-  pub parts : parts_of bar ≡ quota m
+  pub parts : bar.quota ≡ quota m
   pub whole : bar.total ≡ total m.members
 
 -- bonds that come to `part` are a quorum
 abbrev pub enough : ℕ → Bar → Bool
-enough part bar = quorum (parts_of bar) part bar.total
+enough part bar = quorum bar.quota part bar.total
 
 -- these voters are a quorum
 abbrev pub carried : List ℕ → ℕ → Bar → Voters → Bool

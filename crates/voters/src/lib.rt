@@ -6,6 +6,8 @@ ghost use Rattle.model.specs.Limits.{member_limit, bond_limit};
 ghost use Rattle.voters.specs.Bits.{among, sum_below, count_below};
 ghost use Rattle.voters.specs.Weights.{Bonds, Fits, weight_of, enough, carried};
 
+use model::Quota;
+
 // The members behind a link as 128 bits: the member at place i is bit i, in `lo` below 64 and in `hi` from there on.
 #[derive(Clone, Copy, Debug, PartialEq, Eq)]
 pub struct Voters {
@@ -97,8 +99,7 @@ pub fn total_bond(bonds: &[u64]) -> u64
 // What a quorum is measured against: p of q parts of the bonds of all members.
 #[derive(Clone, Copy, Debug, PartialEq, Eq)]
 pub struct Bar {
-    pub p: u64,
-    pub q: u64,
+    pub quota: Quota,
     pub total: u64,
 }
 
@@ -108,7 +109,7 @@ impl Bar {
         requires { (part ≤ member_limit * bond_limit) × Fits self }
         ensures { result ≡ enough part self }
     {
-        let whole = self.total;
-        (0 < whole) & (self.p * whole <= self.q * part)
+        let whole = u64::from(self.quota.p) * self.total;
+        (0 < self.total) & (whole <= u64::from(self.quota.q) * part)
     }
 }

@@ -26,7 +26,7 @@ loop-i-preserved c =
       | in-Some w ↦ let line = w.put_row-next.ensures in
           subst₂ More (sym w.buf-is) (sym w.next-is) (
             concat_more row c.loop-i.i c.loop-i.invariant.0 (spelled line.0 (
-                ap (line_of p) (w.in-Some.ensures.lookup.3.1 _) ∙ held-row rows p w.in-Some.ensures.lookup.3.0)),
+                ap line_of (w.in-Some.ensures.lookup.3.1 _) ∙ held-row rows p w.in-Some.ensures.lookup.3.0)),
             omega (arith, line.1, c.loop-i.invariant.1),
           )
       | in-None w ↦ let line = w.put_rule-next.ensures in

@@ -47,8 +47,7 @@ slice_bounds-put_pages-end c = omega (arith, front (goal.at.slice_bounds-put_pag
 pub put_pages-requires : goal.put_pages-requires
 put_pages-requires c =
     let few = few-checkpoints c.args.w c.requires in
-    let many = front (goal.at.put_pages-requires c).After-rows-rows in
-    (omega (arith, many), omega arith, omega arith)
+    (omega (arith, few), omega (arith, c.if-buf-pages.false))
 
 pub returns : goal.returns
 returns c =

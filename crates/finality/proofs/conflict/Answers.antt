@@ -66,4 +66,5 @@ returns c =
     let at = (goal.at.returns c).After-last_final-f in
     let w = c.args.w in
     last-conflict w c.requires c.statuses-a.result c.statuses-a.ensures c.last_final-f.result.0 (last at)
-    (c.strays.ensures w.checkpoint_count (low at) (falling w c.requires) ∙ strays_front _ _ (held at) _ _)
+    (rw c.from.ensures at (c.strays.ensures w.checkpoint_count (low at) (falling w c.requires))
+    ∙ strays_front _ _ (held at) _ _)

@@ -1,9 +1,7 @@
 -- `finality::support` meets its contract: the voters gathered for the link are its supporters. Assumes nothing.
 use Prim.Native.Nat.{◌<◌}
 use native.Mathlib.Omega.{arith}
-use mathlib.Core.Path.{◌∙◌}
 use Rattle.state.proofs.Sound.{few-members, few-checkpoints}
-use Rattle.voters.proofs.Weights.{first_good, weight-first}
 use Rattle.tally.proofs.Ready.{ready-bonds, ready-bar, ready-walk, ready-support}
 use Rattle.finality.proofs.support.Goals as goal
 use Rattle.finality.proofs.support.Goals.{After-prepare-b}
@@ -22,17 +20,17 @@ pub gather-requires-clause-walk : goal.gather-requires-clause-walk
 gather-requires-clause-walk c =
     ready-walk c.prepare-b.ensures _ (low (goal.at.gather-requires-clause-walk c).After-prepare-b).1
 
-pub bounds-voters-s : goal.bounds-voters-s
-bounds-voters-s c = (low (goal.at.bounds-voters-s c).After-prepare-b).0
+pub bounds-voters-from : goal.bounds-voters-from
+bounds-voters-from c = rw c.from.ensures (low (goal.at.bounds-voters-from c).After-prepare-b).0
 
 pub backed_by-requires : goal.backed_by-requires
-backed_by-requires c = (first_good _ _ (ready-bonds c.prepare-b.ensures), ready-bar c.prepare-b.ensures)
+backed_by-requires c = (ready-bonds c.prepare-b.ensures, ready-bar c.prepare-b.ensures)
 
 pub returns : goal.returns
 returns c =
     let r = c.prepare-b.ensures in
     let is = c.backed_by.ensures in
     let places = low (goal.at.returns c).After-prepare-b in
-    ready-support r _ _ places.1 c.gather.ensures _ places.0 is.number
-    (is.weight ∙ weight-first _ _ (ready-bonds r) _)
+    ready-support r _ _ places.1 c.gather.ensures _ places.0 (rw c.from.ensures at is.number)
+    (rw c.from.ensures at is.weight)
     is.yes?

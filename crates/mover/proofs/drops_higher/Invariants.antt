@@ -1,6 +1,5 @@
 -- `mover::drops_higher` meets its contract. The loop's invariant: no vote passed is dropped with a higher target.
 -- Assumes nothing.
-use Prim.Native.Nat.{◌-◌, ◌≤◌}
 use mathlib.Core.Path.{◌≡◌}
 use mathlib.Core.Bool.{false, ◌&&◌, not}
 use lib.Dec.{ltb}
@@ -11,9 +10,4 @@ use Rattle.mover.proofs.drops_higher.Given as goal
 
 abbrev pub invariant-loop-i : goal.invariant-loop-i
 invariant-loop-i l =
-    (l.i ≤ l.count)
-    × (false
-    ≡ any_below l.i (λ j. not (get_or l.votes j false) && ltb l.root.0 (height_at l.w.heights (place_at l.w.targets j))))
-
-abbrev pub decreases-loop-i : goal.decreases-loop-i
-decreases-loop-i l = l.count - l.i
+    false ≡ any_below l.i (λ j. not (get_or l.votes j false) && ltb l.root.0 (height_at l.w.heights (place_at l.w.targets j)))

@@ -1,7 +1,8 @@
 use Prim.Native.Nat.{◌<◌}
 use native.Mathlib.Omega.{arith}
-use mathlib.Core.Path.{◌≡◌, refl, ◌∙◌}
+use mathlib.Core.Path.{refl, ◌∙◌}
 use mathlib.Core.Bool.{false, ◌&&◌}
+use mathlib.Core.Path.{◌≡◌}
 use lib.ListN.{get_or, length-set, length-replicate}
 use Rattle.search.proofs.Filled.{each_more}
 use Rattle.tables.specs.Places.{place_at}
@@ -11,13 +12,13 @@ use Rattle.mover.proofs.votes_kept.Goals as goal
 use Rattle.mover.proofs.votes_kept.Goals.{In-loop-i}
 
 few : (c : In-loop-i) → c.loop-i.i < 4096
-few c = omega (arith, c.loop-i-test.true, few-votes c.args.w c.requires.0)
+few c = omega (arith, c.loop-i-test.true, few-votes c.args.w.now c.requires.0)
 
 -- the places of a vote
-places : (c : In-loop-i) → let w = c.args.w in let i = c.loop-i.i in
+places : (c : In-loop-i) → let w = c.args.w.now in let i = c.loop-i.i in
     (place_at w.sources i < 512) × (place_at w.targets i < 512)
 places c =
-    let w = c.args.w in
+    let w = c.args.w.now in
     let sound = c.requires.0 in
     let i = c.loop-i.i in
     let most = few-checkpoints w sound in (
@@ -26,7 +27,7 @@ places c =
     )
 
 pub loop-i-init : goal.loop-i-init
-loop-i-init c = (omega arith, length-replicate 4096 false, λ j h. absurd (omega arith))
+loop-i-init c = (length-replicate 4096 false, λ j h. absurd (omega arith))
 
 pub offset_bounds-w-i : goal.offset_bounds-w-i
 offset_bounds-w-i c = omega (arith, few (goal.at.offset_bounds-w-i c).In-loop-i)
@@ -40,11 +41,11 @@ offset_bounds-w-i-in-loop-i c = omega (arith, few (goal.at.offset_bounds-w-i-in-
 pub bounds-w-i-in-loop-i : goal.bounds-w-i-in-loop-i
 bounds-w-i-in-loop-i c = omega (arith, few (goal.at.bounds-w-i-in-loop-i c).In-loop-i)
 
-pub bounds-k-from : goal.bounds-k-from
-bounds-k-from c = (places (goal.at.bounds-k-from c).In-loop-i).0
+pub bounds-k-source : goal.bounds-k-source
+bounds-k-source c = (places (goal.at.bounds-k-source c).In-loop-i).0
 
-pub bounds-k-to : goal.bounds-k-to
-bounds-k-to c = (places (goal.at.bounds-k-to c).In-loop-i).1
+pub bounds-k-target : goal.bounds-k-target
+bounds-k-target c = (places (goal.at.bounds-k-target c).In-loop-i).1
 
 pub bounds-v-i : goal.bounds-v-i
 bounds-v-i c = omega (arith, few (goal.at.bounds-v-i c).In-loop-i)
@@ -52,10 +53,9 @@ bounds-v-i c = omega (arith, few (goal.at.bounds-v-i c).In-loop-i)
 pub loop-i-preserved : goal.loop-i-preserved
 loop-i-preserved c =
     let l = c.loop-i in
-    let w = c.args.w in
-    let stays = c.args.k.stays in (
-      omega arith,
-      simp length-set l.invariant.1,
+    let w = c.args.w.now in
+    let stays = c.args.k.now.stays in (
+      simp length-set l.invariant.0,
       each_more
           (λ j b. b ≡ (get_or stays (place_at w.sources j) false && get_or stays (place_at w.targets j) false))
           false
@@ -64,9 +64,9 @@ loop-i-preserved c =
           _
           (omega (arith, few (goal.at.loop-i-preserved c).In-loop-i))
           refl
-          l.invariant.2,
+          l.invariant.1,
     )
 
 pub returns : goal.returns
 returns c =
-    λ i h. c.loop-i.invariant.2 i (omega arith) ∙ kept_at c.args.w c.requires.0 c.args.r.0 c.requires.1 i h
+    λ i h. c.loop-i.invariant.1 i (omega arith) ∙ kept_at c.args.w.now c.requires.0 c.args.r.0 c.requires.1 i h

@@ -1,5 +1,5 @@
 -- `mover::votes_kept` meets its contract. The loop's invariant: the first `i` entries are right. Assumes nothing.
-use Prim.Native.Nat.{ℕ, ◌-◌, ◌<◌, ◌≤◌}
+use Prim.Native.Nat.{ℕ, ◌<◌}
 use mathlib.Core.Path.{◌≡◌}
 use mathlib.Core.Bool.{false, ◌&&◌}
 use lib.ListN.{length, get_or}
@@ -8,11 +8,7 @@ use Rattle.mover.proofs.votes_kept.Given as goal
 
 abbrev pub invariant-loop-i : goal.invariant-loop-i
 invariant-loop-i l =
-    (l.i ≤ l.count)
-    × (length l.v ≡ 4096)
+    (length l.v ≡ 4096)
     × ((j : ℕ) → j < l.i
     → get_or l.v j false
     ≡ (get_or l.k.stays (place_at l.w.sources j) false && get_or l.k.stays (place_at l.w.targets j) false))
-
-abbrev pub decreases-loop-i : goal.decreases-loop-i
-decreases-loop-i l = l.count - l.i

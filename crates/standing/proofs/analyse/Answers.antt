@@ -1,7 +1,6 @@
 use native.Mathlib.Omega.{arith}
 use lib.Seq.{length-take-le}
 use Rattle.state.proofs.Sound.{few-members}
-use Rattle.voters.proofs.Weights.{first_good}
 use Rattle.tally.proofs.Ready.{ready-bonds, ready-bar}
 use Rattle.standing.proofs.Turns.{turn-first, turn-walk, turn-parent, turn_more, turn_last}
 use Rattle.standing.proofs.analyse.Goals as goal
@@ -20,26 +19,28 @@ reaches-requires c =
     let at = c.loop-t.invariant in
     let sources = c.gather.new.voters in (
       omega (arith, length-take-le c.loop-t.t sources (omega (arith, at.low, at.few)), at.marked.long, at.low, at.few),
-      first_good _ _ (ready-bonds at.ready),
+      ready-bonds at.ready,
       ready-bar at.ready,
     )
 
 pub bounds-voters-p : goal.bounds-voters-p
-bounds-voters-p c = turn-parent c.loop-t.invariant c.loop-t-test.true
+bounds-voters-p c = rw c.from-p.ensures (turn-parent c.loop-t.invariant c.loop-t-test.true)
 
 pub carries-requires : goal.carries-requires
-carries-requires c = (first_good _ _ (ready-bonds c.loop-t.invariant.ready), ready-bar c.loop-t.invariant.ready)
+carries-requires c = (ready-bonds c.loop-t.invariant.ready, ready-bar c.loop-t.invariant.ready)
 
 pub bounds-marks-p : goal.bounds-marks-p
-bounds-marks-p c = turn-parent c.loop-t.invariant c.loop-t-test.true
+bounds-marks-p c = rw c.from-p.ensures (turn-parent c.loop-t.invariant c.loop-t-test.true)
 
 pub bounds-marks-p-in-loop-t : goal.bounds-marks-p-in-loop-t
-bounds-marks-p-in-loop-t c = turn-parent c.loop-t.invariant c.loop-t-test.true
+bounds-marks-p-in-loop-t c = rw c.from-p.ensures (turn-parent c.loop-t.invariant c.loop-t-test.true)
 
 pub loop-t-preserved : goal.loop-t-preserved
 loop-t-preserved c =
-    turn_more c.loop-t.invariant c.loop-t-test.true c.gather.new.voters (omega arith) c.gather.ensures c.reaches.ensures
-    c.carries.ensures
+    rw c.from-p.ensures
+    (turn_more c.loop-t.invariant c.loop-t-test.true c.gather.new.voters (omega arith) c.gather.ensures
+    c.reaches.ensures
+    (rw c.from-p.ensures at c.carries.ensures))
 
 pub returns : goal.returns
 returns c = turn_last c.loop-t.invariant c.loop-t-test.false

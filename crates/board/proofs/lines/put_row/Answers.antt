@@ -1,7 +1,9 @@
 -- `board::lines::put_row` meets its contract: the fields one after another, and the newline. Assumes nothing.
 use Prim.Native.Nat.{◌+◌, ◌≤◌}
 use native.Mathlib.Omega.{arith}
+use mathlib.Core.Path.{◌∙◌}
 use lib.ListN.{length}
+use Rattle.model.specs.Paper.{row_text}
 use Rattle.model.specs.Report.{decimal, newline}
 use Rattle.model.proofs.Columns.{decimal-few, right-long, lines_long}
 use Rattle.model.proofs.Paper.{row_line}
@@ -13,15 +15,15 @@ use Rattle.board.proofs.lines.put_row.Goals.{After-put_field-four, After-put_fie
 -- after each there is room for the rest of the row
 after-place : (c : After-put_field-one) → c.put_field-one.result + 58 ≤ length c.put_field-one.new.buf
 after-place c =
-    let p = c.args.p.0 in
+    let p = c.from.result in
     let put = c.put_field-one.ensures in
-    omega (arith, c.requires, put.past, kept put, field_wide 5 p (decimal-few 4 p (omega arith)))
+    omega (arith, c.requires, put.past, kept put, field_wide 5 p (decimal-few 4 p (omega (arith, c.from.ensures))))
 
 after-height : (c : After-put_field-two) → c.put_field-two.result + 46 ≤ length c.put_field-two.new.buf
 after-height c =
-    let h = c.args.row.now.height.0 in
+    let h = c.from-2.result in
     let put = c.put_field-two.ensures in
-    omega (arith, after-place (goal.at.After-put_field-two c).After-put_field-one, put.past, kept put, field_wide 10 h (decimal-few 9 h (omega arith)))
+    omega (arith, after-place (goal.at.After-put_field-two c).After-put_field-one, put.past, kept put, field_wide 10 h (decimal-few 9 h (omega (arith, c.from-2.ensures))))
 
 after-standing : (c : After-put_standing-three) → c.put_standing-three.result + 32 ≤ length c.put_standing-three.new.buf
 after-standing c =
@@ -31,9 +33,9 @@ after-standing c =
 
 after-number : (c : After-put_field-four) → c.put_field-four.result + 25 ≤ length c.put_field-four.new.buf
 after-number c =
-    let n = c.args.row.now.number in
+    let n = c.from-3.result in
     let put = c.put_field-four.ensures in
-    let wide = field_wide 5 n (decimal-few 4 n (omega arith)) in
+    let wide = field_wide 5 n (decimal-few 4 n (omega (arith, c.from-3.ensures))) in
     omega (arith, after-standing (goal.at.After-put_field-four c).After-put_standing-three, put.past, kept put, wide)
 
 pub put_field-one-requires : goal.put_field-one-requires
@@ -72,8 +74,9 @@ returns c =
     c.put_field-four.ensures)
     c.put_right-five.ensures)
     c.put.ensures)
-    (row_of_fields a.p.0 row.height.0 row.status row.number row.bonds) in
-    let line = row_line a.p.0 row.height.0 row.status row.number row.bonds
+    (row_of_fields _ _ row.status _ row.bonds
+    ∙ (λ i. row_text (c.from.ensures i) (c.from-2.ensures i) row.status (c.from-3.ensures i) row.bonds)) in
+    let line = row_line row.place.0 row.height.0 row.status row.number row.bonds
     (omega arith)
     (omega arith)
     (omega arith)

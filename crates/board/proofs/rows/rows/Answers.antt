@@ -6,7 +6,8 @@ use lib.Seq.{length-take-le}
 use Rattle.state.proofs.Sound.{few-members}
 use Rattle.voters.specs.Bits.{among}
 use Rattle.voters.proofs.Bits.{sum_bound}
-use Rattle.board.proofs.Drawing.{drawn_none, drawn_bonds, drawn_walk, drawn_more, drawn_all}
+use Rattle.tally.proofs.Ready.{ready-bonds}
+use Rattle.board.proofs.Drawing.{drawn_none, drawn_walk, drawn_more, drawn_all}
 use Rattle.board.proofs.rows.rows.Goals as goal
 
 pub shared_ref_as_front-bonds : goal.shared_ref_as_front-bonds
@@ -23,7 +24,7 @@ heaviest-best-requires c =
     let at = c.loop-p.invariant in
     let marks : length c.analyse-a.result.marks ≡ 512 = search rules in
     let front = length-take-le c.loop-p.p c.gather.new.voters (omega (arith, at.low, at.few)) in
-    (omega (arith, front, marks, at.low, at.few), drawn_bonds at)
+    (omega (arith, front, marks, at.low, at.few), ready-bonds at.ready)
 
 pub overflow_cast-rows : goal.overflow_cast-rows
 overflow_cast-rows c =
