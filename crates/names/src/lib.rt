@@ -10,10 +10,10 @@ ghost use Rattle.model.specs.Lists.{first_index, pair_below, same_bytes};
 ghost use Rattle.names.specs.Rows.{rows, Others};
 ghost use Rattle.names.specs.Slots.{slots, slot_of};
 
-// How many slots there are, a prime: once for the remainders of words, and once for the marks.
+// How many slots there are, a prime: the remainders of words are taken by it too.
 const PRIME: u64 = 15809;
 
-const SLOTS: usize = 15809;
+const SLOTS: usize = PRIME as usize;
 
 // The first index from `from` on whose name may be the one of s at `at`: every name passed over has another word of 8
 // bytes from byte d on.

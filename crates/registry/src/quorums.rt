@@ -10,7 +10,7 @@ ghost use Rattle.registry.specs.Decision.{decision_of};
 use crate::Decision;
 use model::{Quota, Refusal};
 use state::Numbers;
-use state::quotas::{is_given, is_permitted};
+use state::quotas::is_permitted;
 
 // Rows 63 and 64, on the quorum record at `at`; `fixed` is row 10's condition.
 pub fn decide_quorum(
@@ -37,7 +37,7 @@ pub fn decide_quorum(
     if !is_permitted(quota) {
         return Err(Refusal::BadQuorum);
     }
-    if is_given(numbers) {
+    if numbers.is_given() {
         return Err(Refusal::BadQuorum);
     }
     Ok(Decision::Quorum(quota))

@@ -10,7 +10,7 @@ ghost use Rattle.sound.specs.Parts.{counts_pass, members_pass, tree_passes, vote
 
 use model::{Height, MAX_CHECKPOINTS, MAX_MEMBERS, MAX_ROOT_HEIGHT, MAX_VOTES, Place};
 use state::Witness;
-use state::quotas::{is_permitted, quota_of};
+use state::quotas::is_permitted;
 
 // A root is held, and no more of anything than there is room for.
 fn counts_pass(members: usize, checkpoints: usize, votes: usize) -> bool
@@ -67,7 +67,7 @@ fn votes_pass(
 pub fn is_sound(w: Witness) -> bool
     ensures { (result ≡ sound? w) × Typed w }
 {
-    is_permitted(quota_of(w.numbers))
+    is_permitted(w.numbers.quota())
         && counts_pass(w.member_count, w.checkpoint_count, w.vote_count)
         && members_pass(&w.ids[..w.member_count], &w.bonds[..w.member_count])
         && tree_passes(

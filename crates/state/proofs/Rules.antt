@@ -1,8 +1,8 @@
 -- The rule by p and q of a state: whether one was given, and which quota it is.
 use native.Mathlib.Omega.{arith}
-use mathlib.Core.Path.{◌≡◌, refl}
+use mathlib.Core.Path.{◌≡◌, refl, sym, ap, ◌∙◌}
 use mathlib.Core.Bool.{Bool, true, false, cond, ◌&&◌, ◌||◌, not, true≢false, false≢true}
-use borrow.Author.Tests.{ne_eqb}
+use borrow.Author.Tests.{eq-eqb, ne_eqb}
 use lib.Dec.{eqb}
 use Rattle.model.specs.Rule.{standard, given, given?, quota_of, Permitted, permitted?}
 use Rattle.model.specs.declared.Quota.{Quota}
@@ -39,13 +39,23 @@ module _ (k : Quota) where
       go true = true_permitted _ standard-permitted
       go false = refl
 
-  pub given_is : not nought ≡ given? (rule_of k)
+  given_is : not nought ≡ given? (rule_of k)
   unfolding rule_of given?
   given_is = go nought
     where
       go : (c : Bool) → not c ≡ given? (cond c standard (given k))
       go true = refl
       go false = refl
+
+  -- the same, asked of p first
+
+  pub given-by-p : (k.p ≡ 0 → ⊥) → not (eqb k.p 0) ≡ given? (rule_of k)
+  given-by-p h =
+      let e = ne_eqb k.p 0 h in
+      ap not (e ∙ sym (ap (λ (b : Bool). b && eqb k.q 0) e)) ∙ given_is
+
+  pub given-by-q : k.p ≡ 0 → not (eqb k.q 0) ≡ given? (rule_of k)
+  given-by-q h = ap (λ (b : Bool). not (b && eqb k.q 0)) (sym (eq-eqb k.p 0 h)) ∙ given_is
 
   pub given-quota : given? (rule_of k) ≡ true → k ≡ quota_of (rule_of k)
   unfolding rule_of given? quota_of

@@ -6,21 +6,27 @@ ghost use Rattle.state.specs.State.{rule_of, quota_in};
 use crate::Numbers;
 use model::{MAX_PARTS, Quota};
 
-// Whether a record gave a quorum.
-pub fn is_given(n: Numbers) -> bool
-    ensures { result ≡ given? (rule_of (quota_in n)) }
-{
-    !((n.p == 0) & (n.q == 0))
-}
-
-// The quota by the rule that is held: 2 of 3 parts where no record gave one.
-pub fn quota_of(n: Numbers) -> Quota
-    ensures { result ≡ quota_of (rule_of (quota_in n)) }
-{
-    if is_given(n) {
-        return Quota { p: n.p, q: n.q };
+impl Numbers {
+    // Whether a record gave a quorum.
+    pub fn is_given(self) -> bool
+        ensures { result ≡ given? (rule_of (quota_in self)) }
+    {
+        self.p != 0 || self.q != 0
     }
-    Quota { p: 2, q: 3 }
+
+    // The quota by the rule that is held: 2 of 3 parts where no record gave one.
+    pub fn quota(self) -> Quota
+        ensures { result ≡ quota_of (rule_of (quota_in self)) }
+    {
+        if self.is_given() {
+            Quota {
+                p: self.p,
+                q: self.q,
+            }
+        } else {
+            Quota { p: 2, q: 3 }
+        }
+    }
 }
 
 // What rows 40 and 64 ask of p and q.

@@ -8,7 +8,6 @@ ghost use Rattle.tally.specs.Ready.{Ready};
 
 use model::{MAX_CHECKPOINTS, MAX_VOTES, Place};
 use state::Witness;
-use state::quotas::quota_of;
 use voters::{Bar, Voters, total_bond};
 
 // The place of each vote's member, found by its id.
@@ -69,7 +68,7 @@ pub fn prepare(w: &Witness) -> Ballots
         who: member_places(ids, voters),
         chains: bucket(targets),
         bar: Bar {
-            quota: quota_of(w.numbers),
+            quota: w.numbers.quota(),
             total: total_bond(bonds),
         },
     }

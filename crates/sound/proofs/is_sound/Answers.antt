@@ -35,7 +35,7 @@ typed c =
 two : (c : Joined-is_permitted) → c.if-is_permitted.value ≡ first_two (w (goal.at.Joined-is_permitted c).Start)
 two c =
     let x = w (goal.at.Joined-is_permitted c).Start in
-    let asked = c.is_permitted.ensures ∙ ap permitted? c.quota_of.ensures ∙ sym (rule-is x) in
+    let asked = c.is_permitted.ensures ∙ ap permitted? c.quota.ensures ∙ sym (rule-is x) in
     elim c.if-is_permitted.branch [
       | then-is_permitted t ↦ t.value-is ∙ goes-on asked t.if-is_permitted.true (t.counts_pass.ensures ∙ sym (counts_are x))
       | else-is_permitted t ↦ t.value-is ∙ ends asked _ t.if-is_permitted.false

@@ -78,4 +78,4 @@ pub returns : goal.returns
 returns c =
     let w = c.args.w.now in
     made w c.requires (search rules) c.member_places.ensures c.bucket.ensures
-    (bar-is w c.quota_of.ensures (c.total_bond.ensures ∙ sum_first_bonds _ _ (bonds-good w c.requires) _))
+    (bar-is w c.quota.ensures (c.total_bond.ensures ∙ sum_first_bonds _ _ (bonds-good w c.requires) _))
