@@ -1,5 +1,5 @@
 -- The held ids as a list: the one at an index, and how many there are.
-use Prim.Native.Nat.{ℕ, suc, ◌<◌, ◌≤◌}
+use Prim.Native.Nat.{ℕ, suc, ◌<◌}
 use native.Mathlib.Omega.{arith}
 use mathlib.Core.Path.{◌≡◌, refl, sym, ap, ap₂}
 use mathlib.Core.Logic.{⊎_elim}
@@ -7,19 +7,14 @@ use mathlib.Core.List.{List, [], ◌∷◌}
 use mathlib.Core.Bool.{Bool, true, false, cond, ◌&&◌}
 use borrow.Author.Tests.{ltb-true, ltb-false}
 use lib.Dec.{ltb}
-use lib.ListN.{length, take, get_or}
-use lib.Seq.{get_or-take, length-take-le}
+use lib.ListN.{length, get_or}
 use Rattle.std.proofs.Common.{Option, Some, None, MatchOption, position}
 use Rattle.std.specs.List.{list_all, position_or_len}
 use Rattle.std.proofs.lemmas.List.Folds.{list_all_at}
 use Rattle.std.proofs.lemmas.List.Recursion.{is_position_or_len}
 use Rattle.model.specs.Lists.{all_below, first_index}
 use Rattle.model.proofs.Lists.{first_le, all_true, true_all, clash, decided}
-use Rattle.search.proofs.Search.{Element}
 use Rattle.search.proofs.Below.{Elements, same_test}
-
-pub ids_at : (n i : ℕ) (l : List ℕ) → n ≤ length l → i < n → Element 0 (take n l) i (get_or l i 0)
-ids_at n i l fit h = record { inside = omega (arith, length-take-le n l fit); here = get_or-take n l i 0 h }
 
 pub ids_all : (l : List ℕ) → Elements 0 l (length l) (λ i. get_or l i 0)
 ids_all l = record { many = refl; each = λ i h. record { inside = h; here = refl } }
