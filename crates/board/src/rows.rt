@@ -10,8 +10,8 @@ use state::Witness;
 use tally::{links, votes};
 use voters::Voters;
 
-// What the paper shows of a checkpoint: its place and height, the standing, and how many members, with how much bond, are behind
-// the link that is shown: the one into the place from a justified source with the largest bond.
+// What the paper shows of a checkpoint: its place and height, the standing, and how many members, with how much bond,
+// are behind the link that is shown: the one into the place from a justified source with the largest bond.
 #[derive(Clone, Copy, Debug, PartialEq, Eq)]
 pub struct Row {
     pub place: Place,

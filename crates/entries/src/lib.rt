@@ -4,7 +4,7 @@
 ghost use Rattle.std.specs.Prelude.{◌≡◌, cond, ◌<◌, ◌≤◌, length};
 ghost use Rattle.model.specs.Answer.{row_of};
 ghost use Rattle.model.specs.Limits.{member_limit};
-ghost use Rattle.state.specs.Reading.{outcome_of, padded};
+ghost use Rattle.state.specs.Reading.{padded};
 ghost use Rattle.ballots.specs.Ballot.{change_of};
 ghost use Rattle.entries.specs.Entries.{later, votes_in, last_rows};
 
@@ -12,20 +12,9 @@ use ballots::votes::Ballot;
 use model::{MAX_MEMBERS, Refusal};
 use state::{Outcome, Passed};
 
-// The number of the row that refused a record; 0 where none did.
-#[tactic(auto, unfolding(model::specs::Answer::row_of))]
-pub fn row_of(o: Outcome) -> u8
-    ensures { result ≡ row_of (outcome_of o) }
-{
-    match o {
-        Ok(_) => 0,
-        Err(r) => u8::from(r),
-    }
-}
-
 // The number of the row that refused a vote of a bundle; 0 where none did.
 #[tactic(auto, using(model::proofs::Refusals::refusal_small), unfolding(model::specs::Answer::row_of))]
-fn row_of_vote(vote: Result<Ballot, Refusal>) -> u8
+fn row_of(vote: Result<Ballot, Refusal>) -> u8
     ensures { (result ≡ row_of (change_of vote)) × (result < 128) }
 {
     match vote {
@@ -38,11 +27,8 @@ fn row_of_vote(vote: Result<Ballot, Refusal>) -> u8
 pub fn vote_entry(vote: Result<Ballot, Refusal>, is_first: bool) -> u8
     ensures { result ≡ cond is_first (row_of (change_of vote)) (later (row_of (change_of vote))) }
 {
-    let row = row_of_vote(vote);
-    if is_first {
-        return row;
-    }
-    128 + row
+    let row = row_of(vote);
+    if is_first { row } else { 128 + row }
 }
 
 // How many votes an outcome tells of; 0 where the record is no bundle, or is refused whole.
@@ -64,10 +50,8 @@ pub fn last_votes(rows: &[u8], used: usize, last: Outcome) -> [u8; MAX_MEMBERS]
     let n = votes_in(last);
     let from = used - n;
     let mut votes = [0u8; MAX_MEMBERS];
-    let mut i: usize = 0;
-    while i < n {
-        votes[i] = rows[from + i] % 128;
-        i += 1;
+    for (i, entry) in rows[from..used].iter().enumerate() {
+        votes[i] = *entry % 128;
     }
     votes
 }

@@ -17,7 +17,7 @@ use Rattle.state.specs.State.{model_of}
 use Rattle.conduct.specs.declared.Breach.{Breach}
 use Rattle.std.specs.Prelude.{Option}
 use Rattle.evidence.specs.declared.Charges.{Charges}
-use Rattle.conduct.specs.Held.{IdsHeld, Ordered}
+use Rattle.conduct.specs.Held.{Ordered}
 use Rattle.conduct.specs.Shown.{conduct_at, Shown}
 use Rattle.conduct.proofs.Members.{ids-held}
 use Rattle.evidence.specs.Listed.{charge_in, charges_in, charges_of, charges_at}
@@ -81,11 +81,7 @@ listed-charges w fits shown places o found listed =
     let ids = take n w.ids in
     let long : length ids ≡ n = length-take-le n w.ids fits in
     let m = model_of w in
-    let held : IdsHeld m.members ids (length ids) =
-    record {
-      count = (ids-held w).count ∙ sym long;
-      id = λ i h. (ids-held w).id i (omega (arith, long)) ∙ sym (get_or-take n w.ids i 0 (omega (arith, long)));
-    } in
+    let held = ids-held w fits in
     let charge : ℕ → List Model.Charge = λ id. charge_of id (Model.conduct m id) in
     let same : All (λ p. charge (member_at m.members p).id ≡ charge_of (get_or ids p 0) (conduct_at shown p)) places =
     all_map

@@ -18,6 +18,7 @@ use Rattle.model.specs.Model.{Model}
 use Rattle.model.specs.Report.{outcome_line, outcome_lines}
 use Rattle.model.specs.Run.{Event, reading, decide_event, outcomes}
 use Rattle.model.proofs.Refused.{Keeps, single-keeps, refused-keeps as event-keeps}
+use Rattle.model.specs.declared.Refusal.TheVariants.{UnsoundState}
 use Rattle.state.specs.State.{model_of, store_all, stored}
 use Rattle.state.specs.declared.Witness.{Witness}
 use Rattle.state.proofs.Kept.{reading-kept}
@@ -145,7 +146,7 @@ module _ (w : Witness) where
 
   write_unsound : sound? w ≡ false → (text : Model → List ℕ) (buffer : List ℕ)
       → (write_call text w buffer ≡ refused 40) × (write_buffer text w buffer ≡ buffer)
-  write_unsound e text buffer = let so = write_40 w e text buffer in (sym so.0, sym so.1)
+  write_unsound e text buffer = let so = write_40 w UnsoundState (refl, e) text buffer in (sym so.0, sym so.1)
 
 pub calls-keep : CallsKeep
 calls-keep w =

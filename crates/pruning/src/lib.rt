@@ -10,7 +10,8 @@ ghost use Rattle.pruning.specs.Pruned.{TreeFits, VotesFit, pruned_tree, pruned_v
 use model::{MAX_CHECKPOINTS, Place};
 use state::Witness;
 
-// By place: whether it stays, and how many that stay are below it, which is its place then.
+// By place: whether it stays, and how many that stay are below it, which is its place then. The number is that of a
+// place that goes, too: so the two arrays are not one of Options.
 #[derive(Clone, Copy)]
 pub struct Kept {
     pub stays: [bool; MAX_CHECKPOINTS],

@@ -64,10 +64,12 @@ flat_map-map f g [] = refl
 flat_map-map f g (x ∷ xs) = ap (λ t. f (g x) ++ t) (flat_map-map f g xs)
 
 -- all of them, by rising id
-pub members-all : (w : Witness) (places : List ℕ) → Ordered w.ids w.member_count 0 places
+pub members-all : (w : Witness) (fits : w.member_count ≤ length w.ids) (places : List ℕ)
+    → let ids = take w.member_count w.ids in
+    Ordered ids (length ids) 0 places
     → flat_map (line_at w) places ≡ flat_map (member_line (model_of w)) (by_id (model_of w).members)
-members-all w places o =
-    sym (flat_map-map (member_line (model_of w)) (member_at (model_of w).members) places) ∙ ap (flat_map (member_line (model_of w))) (o.rising (model_of w).members (ids-held w))
+members-all w fits places o =
+    sym (flat_map-map (member_line (model_of w)) (member_at (model_of w).members) places) ∙ ap (flat_map (member_line (model_of w))) (o.rising (model_of w).members (ids-held w fits))
 
 -- the three parts
 pub summary-is : (w : Witness) {bonds named : ℕ} {conflict : Bool}

@@ -8,20 +8,17 @@ ghost use Rattle.text.specs.Put.{Put};
 use model::Place;
 use state::Witness;
 
-pub fn checkpoint_lines(w: Witness, buf: &mut [u8], at: usize) -> usize
-    requires { Sound w × (at + 80 * w.checkpoint_count ≤ length buf.old) }
-    ensures { Put buf.old at (checkpoint_lines (model_of w) w.checkpoint_count) buf.new result ×
-        (result ≤ at + 80 * w.checkpoint_count) }
+pub fn checkpoint_lines(w: &Witness, buf: &mut [u8], at: usize) -> usize
+    requires { Sound w.now × (at + 80 * w.now.checkpoint_count ≤ length buf.old) }
+    ensures { Put buf.old at (checkpoint_lines (model_of w.now) w.now.checkpoint_count) buf.new result ×
+        (result ≤ at + 80 * w.now.checkpoint_count) }
 {
-    let count = w.checkpoint_count;
-    let a = standing::statuses(w);
+    let standings = standing::statuses(w);
     let mut next = at;
-    let mut p: usize = 0;
-    while p < count {
+    for p in 0..w.checkpoint_count {
         let place = Place(p as u16);
-        let status = standing::status_of(a, place);
+        let status = standings.status_of(place);
         next = lines::checkpoint_line(buf, next, place, w.heights[p], status);
-        p += 1;
     }
     next
 }

@@ -17,12 +17,11 @@ pub fn summary(w: Witness, buf: &mut [u8]) -> usize
     requires { Sound w × (65536 ≤ length buf.old) }
     ensures { Put buf.old 0 (Report.summary (model_of w)) buf.new result × (result ≤ 65536) }
 {
-    let one = checkpoints::checkpoint_lines(w, buf, 0);
-    let shown = conduct::conducts(w);
-    let two = members::member_lines(w, shown, buf, one);
-    let count = w.member_count;
-    let total = voters::total_bond(&w.bonds, count);
-    let named = members::named_bonds(w, shown);
+    let one = checkpoints::checkpoint_lines(&w, buf, 0);
+    let shown = conduct::conducts(&w);
+    let two = members::member_lines(&w, &shown, buf, one);
+    let total = voters::total_bond(&w.bonds[..w.member_count]);
+    let named = members::named_bonds(&w, &shown);
     let conflict = finality::conflict(w);
     lines::total_line(buf, two, total, named, conflict)
 }

@@ -33,7 +33,7 @@ impl Mark {
 
 // Whether a link with a quorum leads on from a justified place: `voters` has those of the link from each place below
 // the target.
-pub fn reaches<'a>(voters: &'a [Voters], marks: &'a [Mark], bonds: &'a [u64], bar: Bar) -> bool
+pub fn reaches(voters: &[Voters], marks: &[Mark], bonds: &[u64], bar: Bar) -> bool
     requires { (length voters.now ≤ length marks.now) × Bonds bonds.now (length bonds.now) × Fits bar }
     ensures { result
         ≡ any_below (length voters.now)
@@ -71,7 +71,7 @@ fn heavier(one: Weighed, other: Voters, bonds: &[u64]) -> Weighed
 }
 
 // The voters with the most bond, of the links from justified places; those of the lowest place among equals.
-pub fn heaviest<'a>(voters: &'a [Voters], marks: &'a [Mark], bonds: &'a [u64]) -> Weighed
+pub fn heaviest(voters: &[Voters], marks: &[Mark], bonds: &[u64]) -> Weighed
     requires { (length voters.now ≤ length marks.now) × Bonds bonds.now (length bonds.now) }
     ensures { IsHeaviest bonds.now (length bonds.now) marks.now (voters_at voters.now) (length voters.now) result }
 {

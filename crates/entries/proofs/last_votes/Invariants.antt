@@ -1,5 +1,5 @@
 -- `entries::last_votes` meets its contract. The loop's invariant: the first `i` rows stand at the front. Assumes nothing.
-use Prim.Native.Nat.{◌-◌, ◌%◌, ◌≤◌}
+use Prim.Native.Nat.{◌%◌}
 use mathlib.Core.List.{map}
 use lib.ListN.{replicate}
 use Rattle.model.specs.Bytes.{part}
@@ -7,8 +7,4 @@ use Rattle.entries.specs.Entries.{Written}
 use Rattle.entries.proofs.last_votes.Given as goal
 
 abbrev pub invariant-loop-i : goal.invariant-loop-i
-invariant-loop-i l =
-    (l.i ≤ l.n) × Written (map (λ e. e % 128) (part l.from l.i l.rows)) (replicate 128 0) l.votes l.i
-
-abbrev pub decreases-loop-i : goal.decreases-loop-i
-decreases-loop-i l = l.n - l.i
+invariant-loop-i l = Written (map (λ e. e % 128) (part 0 l.i l.entry-items)) (replicate 128 0) l.votes l.i
