@@ -5,47 +5,25 @@
 
 use std::io::{Error, Read};
 use std::rt::Env;
-use turns::Fate;
 
 // What the system says of an argument that finds no room (ENAMETOOLONG).
 const TOO_LONG: i32 = 36;
-
-// The report of the log in an open file.
-fn write_report<R: Read>(rt: HostRuntime, from: &mut R) {
-    let log = stream::read_log(rt, from, true);
-    let fate = log.fate;
-    if let Fate::Whole = fate {
-        stream::write_end(rt, log);
-    }
-}
-
-// Whether a name begins with `paper`.
-fn is_paper(path: &[u8]) -> bool {
-    if path.len() < 5 {
-        return false;
-    }
-    (path[0] == b'p')
-        & (path[1] == b'a')
-        & (path[2] == b'p')
-        & (path[3] == b'e')
-        & (path[4] == b'r')
-}
 
 // The report of the log in an open file, or its board paper.
 fn write_asked<R: Read>(rt: HostRuntime, from: &mut R, paper: bool) {
     if paper {
         let log = stream::read_log(rt, from, false);
-        printer::print_paper(rt, log);
-        return;
+        printer::print_paper(rt, &log);
+    } else {
+        printer::print_report(rt, from);
     }
-    write_report(rt, from);
 }
 
 fn show(rt: HostRuntime, path: &[u8]) {
     buffered::print(rt, path);
     buffered::print(rt, b"\n");
     match buffered::open_read(rt, path) {
-        Ok(mut log) => write_asked(rt, &mut log, is_paper(path)),
+        Ok(mut log) => write_asked(rt, &mut log, path.starts_with(b"paper")),
         Err(why) => buffered::fail(rt, path, &why),
     }
 }

@@ -3,15 +3,11 @@
 // stop.
 #![tactic(auto)]
 
-ghost use Rattle.std.specs.Prelude.{◌≡◌, ◌≤◌, length, take};
+ghost use Rattle.std.specs.Prelude.{◌≡◌, ◌≤◌, length, take, IfSome};
 
-use buffered::Filled;
-use checker::CheckAnswer;
 use state::Witness;
 use std::io::{Error, Read};
 use std::rt::Env;
-use stream::Log;
-use turns::Fate;
 
 // A line of some words and a number.
 fn say(rt: HostRuntime, words: &[u8], n: u64)
@@ -21,64 +17,50 @@ fn say(rt: HostRuntime, words: &[u8], n: u64)
     let number = text::put(&mut line, 0, words);
     let end = text::put_number(&mut line, number, n);
     let whole = text::put(&mut line, end, b"\n");
-    buffered::print_front(rt, &line, whole);
+    buffered::print(rt, &line[..whole]);
 }
 
 fn say_answer(rt: HostRuntime, w: Witness, list: &[u8]) {
     match answers::check_list(w, list) {
-        CheckAnswer::Sum(n) => say(rt, b"sum ", n),
-        CheckAnswer::Refused(r) => say(rt, b"refused ", refusals::refusal_number(r) as u64),
+        Ok(n) => say(rt, b"sum ", n),
+        Err(why) => say(rt, b"refused ", u64::from(u8::from(why))),
     }
 }
 
-// The list to its end, or as much of it as the buffer takes. A proved loop has to end, and nothing says that a file
-// does: so it counts down from a number that no run uses up.
-fn read_list<R: Read>(rt: HostRuntime, from: &mut R, path: &[u8], list: &mut [u8]) -> Filled
-    ensures { (result.have ≤ length list.new) × (result.have ≡ length (take result.have list.new)) }
+// How many bytes the list has, read to its end, or as much of it as the buffer takes; None where it could not be read,
+// which is told. A proved loop has to end, and nothing says that a file does: so the turns are counted, up to a number
+// that no run reaches.
+fn read_list<R: Read>(rt: HostRuntime, from: &mut R, path: &[u8], list: &mut [u8]) -> Option<usize>
+    ensures { IfSome result (λ n. (n ≤ length list.new) × (n ≡ length (take n list.new))) }
 {
-    let mut all = Filled {
-        have: 0,
-        ended: false,
-        failed: false,
-    };
-    let mut turns = u64::MAX;
-    while 0 < turns {
-        let have = all.have;
+    let mut have = 0;
+    for _ in 0..u64::MAX {
         if list.len() <= have {
-            return all;
+            break;
         }
-        if all.ended | all.failed {
-            return all;
+        let filled = buffered::fill(rt, from, path, list, have)?;
+        have = filled.have;
+        if filled.ended {
+            break;
         }
-        all = buffered::fill(rt, from, path, list, have);
-        turns -= 1;
     }
-    all
+    Some(have)
 }
 
 // No list in the layout has more than 393,217 bytes, its count being of 16 bits; so one byte more is all that need be
 // read to refuse a longer one. A list that could not be read to its end is not judged.
-fn check<R: Read>(rt: HostRuntime, log: Log, from: &mut R, path: &[u8]) {
-    let held = log.witness;
+fn check<R: Read>(rt: HostRuntime, w: Witness, from: &mut R, path: &[u8]) {
     let mut list = [0u8; 393218];
-    let all = read_list(rt, from, path, &mut list);
-    if all.failed {
-        return;
+    if let Some(n) = read_list(rt, from, path, &mut list) {
+        say_answer(rt, w, &list[..n]);
     }
-    let n = all.have;
-    say_answer(rt, held, &list[..n]);
 }
 
 // The log is read before the list.
 fn check_log<R: Read>(rt: HostRuntime, from: &mut R, path: &[u8]) {
     let log = stream::read_log(rt, &mut rt.stdin(), false);
-    let fate = log.fate;
-    if let Fate::Whole = fate {
-        if log.left == 0 {
-            check(rt, log, from, path);
-        } else {
-            stream::write_end(rt, log);
-        }
+    if printer::is_whole(rt, &log) {
+        check(rt, log.witness, from, path);
     }
 }
 

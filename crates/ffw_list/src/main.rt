@@ -4,5 +4,5 @@
 
 fn main(rt: HostRuntime) {
     let log = stream::read_log(rt, &mut rt.stdin(), false);
-    printer::print_list(rt, log);
+    printer::print_list(rt, &log);
 }

@@ -4,5 +4,5 @@
 
 fn main(rt: HostRuntime) {
     let log = stream::read_log(rt, &mut rt.stdin(), false);
-    printer::print_paper(rt, log);
+    printer::print_paper(rt, &log);
 }

@@ -1,71 +1,59 @@
-// What programs print of a log that was read to its end: our list of charges, or the board paper. Of a log that is
-// stopped they say what the report says of the stop.
+// What programs print of a log: the report; or, of a log that was read to its end, our list of charges or the board
+// paper. Of a log that is stopped they say what the report says of the stop.
 #![tactic(auto)]
 
-ghost use Rattle.std.specs.Prelude.{◌≤◌, length};
-
-use model::WriteAnswer;
+use model::Refusal;
+use std::io::Read;
 use stream::Log;
 use turns::Fate;
 
+// The report of a log.
+pub fn print_report<R: Read>(rt: HostRuntime, from: &mut R) {
+    let log = stream::read_log(rt, from, true);
+    if let Fate::Whole = log.fate {
+        stream::write_end(rt, &log);
+    }
+}
+
 // Whether the log was read whole. Where its last record is cut, that is told.
-pub fn is_whole(rt: HostRuntime, log: Log) -> bool {
-    let fate = log.fate;
-    let Fate::Whole = fate else {
+pub fn is_whole(rt: HostRuntime, log: &Log) -> bool {
+    let Fate::Whole = log.fate else {
         return false;
     };
-    if log.left == 0 {
-        return true;
+    if log.left != 0 {
+        stream::write_end(rt, log);
     }
-    stream::write_end(rt, log);
-    false
+    log.left == 0
 }
 
-// How many bytes were written; none where the call was refused, which the state of a log that was read never calls for.
-fn length_of(a: WriteAnswer, room: usize) -> usize
-    ensures { result ≤ room }
-{
-    match a {
-        WriteAnswer::Length(n) => {
-            if n <= room {
-                return n;
-            }
-            0
-        }
-        WriteAnswer::Refused(_) => 0,
-    }
-}
-
-// The first n bytes, to standard output; with none, why.
-fn print(rt: HostRuntime, buf: &[u8], n: usize)
-    requires { n ≤ length buf.now }
-{
-    if n == 0 {
+// What was written into the buffer, to standard output; or why there is nothing: the call was refused, which the state
+// of a log that was read never calls for.
+fn print(rt: HostRuntime, buf: &[u8], written: Result<usize, Refusal>) {
+    let text = written.ok().and_then(|n| buf.get(..n)).unwrap_or(&[]);
+    if text.is_empty() {
         buffered::complain(
             rt,
             b"log: nothing is printed, since the witness is not sound\n",
         );
-        return;
+    } else {
+        buffered::print(rt, text);
     }
-    buffered::print_front(rt, buf, n);
 }
 
 // Our list. It names each of 128 members at most once: 7 bytes and 6 for each.
-pub fn print_list(rt: HostRuntime, log: Log) {
+pub fn print_list(rt: HostRuntime, log: &Log) {
     if is_whole(rt, log) {
-        let held = log.witness;
         let mut buf = [0u8; 775];
-        let n = length_of(answers::write_list(held, &mut buf), 775);
-        print(rt, &buf, n);
+        let written = answers::write_list(log.witness, &mut buf);
+        print(rt, &buf, written);
     }
 }
 
 // The board paper: 512 checkpoints make 11 pages of 3,250 bytes.
-pub fn print_paper(rt: HostRuntime, log: Log) {
+pub fn print_paper(rt: HostRuntime, log: &Log) {
     if is_whole(rt, log) {
-        let held = log.witness;
         let mut buf = [0u8; 35750];
-        let n = length_of(answers::write_paper(held, &mut buf), 35750);
-        print(rt, &buf, n);
+        let written = answers::write_paper(log.witness, &mut buf);
+        print(rt, &buf, written);
     }
 }

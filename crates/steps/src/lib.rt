@@ -6,24 +6,23 @@ ghost use Rattle.feeding.specs.Feed.{IsFed};
 ghost use Rattle.steps.specs.Turns.{call_of, Advanced, Stepped};
 
 use feeding::Fed;
-use state::Witness;
 use std::io::Read;
 use turns::Turn;
 
 // The log's first bytes where none was read yet, else the records that are at hand.
-fn call(w: Witness, begun: bool, at_end: bool, records: u64, input: &[u8], output: &mut [u8]) -> Fed
+fn call(t: &Turn, input: &[u8], output: &mut [u8]) -> Fed
     ensures { IsFed
-        (call_of begun at_end (length output.old) w records input.now)
+        (call_of t.now.begun t.now.at_end (length output.old) t.now.witness t.now.records input.now)
         0
         0
         output.old
         result
         output.new }
 {
-    if begun {
-        return report::feed(w, records, input, 0, output);
+    if t.begun {
+        return report::feed(t.witness, t.records, input, 0, output);
     }
-    report::open(w, input, at_end, output)
+    report::open(t.witness, input, t.at_end, output)
 }
 
 // One call on the bytes at hand; those that it did not pass over are moved to the front.
@@ -31,21 +30,16 @@ fn advance(t: Turn, input: &mut [u8], output: &mut [u8]) -> Turn
     requires { t.have ≤ length input.old }
     ensures { Advanced t input.old output.old result input.new output.new }
 {
-    let held = t.witness;
-    let have = t.have;
-    let fed = call(held, t.begun, t.at_end, t.records, &input[..have], output);
-    let pause = fed.pause;
-    let after = fed.witness;
-    let next = fed.next;
-    let fate = turns::fate_after(pause, t.begun & t.at_end);
-    let left = buffered::keep(input, next, have);
+    let fed = call(&t, &input[..t.have], output);
+    let fate = turns::fate_after(fed.pause, t.begun & t.at_end);
+    let left = buffered::keep(input, fed.next, t.have);
     Turn {
         fate,
-        begun: t.begun | (0 < next),
+        begun: t.begun | (0 < fed.next),
         at_end: t.at_end,
         have: left,
         records: fed.records,
-        witness: after,
+        witness: fed.witness,
         written: fed.written,
     }
 }
@@ -62,8 +56,7 @@ pub fn step<R: Read>(
     requires { (t.have ≤ length input.old) × (89 ≤ length input.old) }
     ensures { Stepped t input.old (length output.old) result input.new }
 {
-    let have = t.have;
-    if buffered::is_ready(t.begun, t.at_end, &input[..have]) {
+    if buffered::is_ready(t.begun, t.at_end, &input[..t.have]) {
         let called = advance(t, input, output);
         return turns::tell(rt, called, lines, output);
     }

@@ -21,8 +21,8 @@ pub struct Log {
     pub witness: Witness,
 }
 
-// Turn after turn, to the log's end or its stop. A proved loop has to end, and nothing says that a file does: so it
-// counts down from a number that no run uses up.
+// Turn after turn, to the log's end or its stop. A proved loop has to end, and nothing says that a file does: so the
+// turns are counted, up to a number that no run reaches.
 fn read_pieces<R: Read>(
     rt: HostRuntime,
     from: &mut R,
@@ -34,28 +34,25 @@ fn read_pieces<R: Read>(
     ensures { Reads (length output.old) result input.new }
 {
     let mut t = turns::start();
-    let mut turns = u64::MAX;
-    while 0 < turns {
-        let fate = t.fate;
-        let Fate::Open = fate else {
+    for _ in 0..u64::MAX {
+        let Fate::Open = t.fate else {
             return t;
         };
         t = steps::step(rt, from, t, lines, input, output);
-        turns -= 1;
     }
     t
 }
 
-fn leave(t: Turn) -> Log
-    ensures { Leaves t result }
-{
-    let fate = t.fate;
-    let last = t.witness;
-    Log {
-        fate,
-        left: t.have,
-        records: t.records,
-        witness: last,
+impl From<Turn> for Log {
+    ghost from_gives = { Leaves };
+
+    fn from(t: Turn) -> Self {
+        Log {
+            fate: t.fate,
+            left: t.have,
+            records: t.records,
+            witness: t.witness,
+        }
     }
 }
 
@@ -67,36 +64,32 @@ pub fn read_log<R: Read>(rt: HostRuntime, from: &mut R, lines: bool) -> Log
     let mut input = [0u8; 65536];
     let mut output = [0u8; 65536];
     let t = read_pieces(rt, from, lines, &mut input, &mut output);
-    leave(t)
+    Log::from(t)
 }
 
 // The end of a log that was read whole: the line of a record that stays cut, or the summary.
-fn put_end(log: Log, output: &mut [u8]) -> Fed
+fn put_end(log: &Log, output: &mut [u8]) -> Fed
     ensures { IsFed
-        (end_call (length output.old) log.witness log.records log.left)
+        (end_call (length output.old) log.now.witness log.now.records log.now.left)
         0
         0
         output.old
         result
         output.new }
 {
-    let held = log.witness;
-    report::close(held, log.records, log.left, output)
+    report::close(log.witness, log.records, log.left, output)
 }
 
 // That end, to standard output.
-pub fn write_end(rt: HostRuntime, log: Log) {
+pub fn write_end(rt: HostRuntime, log: &Log) {
     let mut output = [0u8; 65536];
     let fed = put_end(log, &mut output);
-    let pause = fed.pause;
-    let n = fed.written;
-    let fate = turns::fate_after(pause, true);
-    if let Fate::Ended = fate {
-        buffered::print_front(rt, &output, n);
-        return;
+    if let Fate::Ended = turns::fate_after(fed.pause, true) {
+        buffered::print(rt, &output[..fed.written]);
+    } else {
+        buffered::complain(
+            rt,
+            b"log: its end cannot be told, since the witness is not sound\n",
+        );
     }
-    buffered::complain(
-        rt,
-        b"log: its end cannot be told, since the witness is not sound\n",
-    );
 }

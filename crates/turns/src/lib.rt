@@ -7,12 +7,13 @@ ghost use Rattle.feeding.specs.Feed.{paused_of};
 ghost use Rattle.turns.specs.Turns.{Starts, fate_of, BeginsLast, Told, Refilled};
 
 use feeding::Pause;
+use model::Refusal;
 use state::Witness;
 use std::io::Read;
 
 // How reading a log stands: it goes on; all of the log was read, and its end is still to be told; the report has
 // ended; or it cannot go on, which was told on standard error.
-#[derive(Clone, Copy)]
+#[derive(Clone, Copy, Debug, PartialEq, Eq)]
 pub enum Fate {
     Open,
     Whole,
@@ -34,49 +35,45 @@ pub struct Turn {
     pub written: usize,
 }
 
-// What follows a call that paused so; `last` says that the log has no more bytes.
-pub fn fate_after(p: Pause, last: bool) -> Fate
+// What follows a call that paused so, or was refused; `last` says that the log has no more bytes.
+pub fn fate_after(p: Result<Pause, Refusal>, last: bool) -> Fate
     ensures { result ≡ fate_of last (paused_of p) }
 {
     match p {
-        Pause::Wants => {
+        Ok(Pause::Wants) => {
             if last {
                 return Fate::Whole;
             }
             Fate::Open
         }
-        Pause::Full => Fate::Open,
-        Pause::OutOfNumbers => Fate::Failed,
-        Pause::Ended => Fate::Ended,
-        Pause::Refused(_) => Fate::Failed,
+        Ok(Pause::Full) => Fate::Open,
+        Ok(Pause::OutOfNumbers) => Fate::Failed,
+        Ok(Pause::Ended) => Fate::Ended,
+        Err(_) => Fate::Failed,
     }
 }
 
-// Where the last line of the first n bytes begins.
-fn last_line(output: &[u8], n: usize) -> usize
-    requires { n ≤ length output.now }
-    ensures { BeginsLast output.now n result }
+// Where the last line of a text begins.
+fn last_line(output: &[u8]) -> usize
+    ensures { BeginsLast output.now (length output.now) result }
 {
-    let mut i = n;
-    while 1 < i {
-        i -= 1;
-        if output[i - 1] == b'\n' {
-            return i;
-        }
-    }
-    0
+    let Some((_, before)) = output.split_last() else {
+        return 0;
+    };
+    before
+        .iter()
+        .rposition(|byte| *byte == b'\n')
+        .map_or(0, |i| i + 1)
 }
 
-// Writes out the first n bytes: every line, or, where only a stop is to be told, the line that tells it.
-fn print(rt: HostRuntime, output: &[u8], n: usize, lines: bool, fate: Fate) -> bool
-    requires { n ≤ length output.now }
-{
+// Writes out a text: every line, or, where only a stop is to be told, the line that tells it. Answers whether that was
+// done.
+fn print(rt: HostRuntime, text: &[u8], lines: bool, fate: Fate) -> bool {
     if lines {
-        return buffered::print_front(rt, output, n);
+        return buffered::print(rt, text);
     }
     if let Fate::Ended = fate {
-        let from = last_line(output, n);
-        return buffered::print(rt, &output[from..n]);
+        return buffered::print(rt, &text[last_line(text)..]);
     }
     true
 }
@@ -85,10 +82,7 @@ fn print(rt: HostRuntime, output: &[u8], n: usize, lines: bool, fate: Fate) -> b
 fn unless_failed(fate: Fate, failed: bool) -> Fate
     ensures { result ≡ cond failed Fate.Failed fate }
 {
-    if failed {
-        return Fate::Failed;
-    }
-    fate
+    if failed { Fate::Failed } else { fate }
 }
 
 // What the call wrote is written out. Where that cannot be done, reading goes no further.
@@ -96,23 +90,17 @@ pub fn tell(rt: HostRuntime, t: Turn, lines: bool, output: &[u8]) -> Turn
     requires { t.written ≤ length output.now }
     ensures { Told t result }
 {
-    let fate = t.fate;
-    if let Fate::Failed = fate {
+    if let Fate::Failed = t.fate {
         buffered::complain(
             rt,
             b"log: no record number is left, or the witness is not sound\n",
         );
     }
-    let is_told = print(rt, output, t.written, lines, fate);
-    let held = t.witness;
+    let is_told = print(rt, &output[..t.written], lines, t.fate);
     Turn {
-        fate: unless_failed(fate, !is_told),
-        begun: t.begun,
-        at_end: t.at_end,
-        have: t.have,
-        records: t.records,
-        witness: held,
+        fate: unless_failed(t.fate, !is_told),
         written: 0,
+        ..t
     }
 }
 
@@ -121,16 +109,19 @@ pub fn refill<R: Read>(rt: HostRuntime, from: &mut R, t: Turn, input: &mut [u8])
     requires { t.have < length input.old }
     ensures { Refilled t input.old result input.new }
 {
-    let filled = buffered::fill(rt, from, b"log", input, t.have);
-    let held = t.witness;
-    Turn {
-        fate: unless_failed(Fate::Open, filled.failed),
-        begun: t.begun,
-        at_end: filled.ended,
-        have: filled.have,
-        records: t.records,
-        witness: held,
-        written: 0,
+    match buffered::fill(rt, from, b"log", input, t.have) {
+        Some(filled) => Turn {
+            fate: Fate::Open,
+            at_end: filled.ended,
+            have: filled.have,
+            written: 0,
+            ..t
+        },
+        None => Turn {
+            fate: Fate::Failed,
+            written: 0,
+            ..t
+        },
     }
 }
 

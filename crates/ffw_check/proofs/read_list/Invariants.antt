@@ -1,9 +1,6 @@
--- What was read lies in the buffer, and the turns count down.
+-- What was read lies in the buffer.
 use Rattle.std.proofs.Common.{◌≤◌, length}
 use Rattle.ffw_check.proofs.read_list.Given as goal
 
-abbrev pub invariant-loop-turns : goal.invariant-loop-turns
-invariant-loop-turns g l = l.all.have ≤ length l.list
-
-abbrev pub decreases-loop-turns : goal.decreases-loop-turns
-decreases-loop-turns g l = l.turns
+abbrev pub invariant-loop : goal.invariant-loop
+invariant-loop g l = l.have ≤ length l.list

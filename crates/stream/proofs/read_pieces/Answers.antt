@@ -5,10 +5,10 @@ use Rattle.stream.specs.Reads.{at-start}
 use Rattle.stream.proofs.Turned.{turned}
 use Rattle.stream.proofs.read_pieces.Goals as goal
 
-pub loop-turns-init : goal.loop-turns-init
-loop-turns-init g c =
+pub loop-init : goal.loop-init
+loop-init g c =
     (omega (arith, c.start-t.ensures.have), record { log = []; text = []; reached = at-start c.start-t.ensures })
 
-pub loop-turns-preserved : goal.loop-turns-preserved
-loop-turns-preserved g c =
-    (c.step-t.ensures.inside, turned _ (omega (arith, c.loop-turns.auto.output)) c.loop-turns.invariant.1 c.in-Open.is c.step-t.ensures)
+pub loop-preserved : goal.loop-preserved
+loop-preserved g c =
+    (c.step-t.ensures.inside, turned _ (omega (arith, c.loop.auto.output)) c.loop.invariant.1 c.in-Open.is c.step-t.ensures)
