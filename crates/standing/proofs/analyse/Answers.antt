@@ -1,5 +1,6 @@
 use native.Mathlib.Omega.{arith}
-use lib.Seq.{length-take-le}
+use Rattle.std.proofs.lemmas.List.{length-take}
+use Rattle.voters.specs.declared.Voters.{Voters}
 use Rattle.state.proofs.Sound.{few-members}
 use Rattle.tally.proofs.Ready.{ready-bonds, ready-bar}
 use Rattle.standing.proofs.Turns.{turn-first, turn-walk, turn-parent, turn_more, turn_last}
@@ -16,9 +17,8 @@ gather-requires-clause-walk c = turn-walk c.loop-t.invariant c.loop-t-test.true
 
 pub reaches-requires : goal.reaches-requires
 reaches-requires c =
-    let at = c.loop-t.invariant in
-    let sources = c.gather.new.voters in (
-      omega (arith, length-take-le c.loop-t.t sources (omega (arith, at.low, at.few)), at.marked.long, at.low, at.few),
+    let at = c.loop-t.invariant in (
+      omega (arith, length-take {A = Voters}, at.marked.long),
       ready-bonds at.ready,
       ready-bar at.ready,
     )
