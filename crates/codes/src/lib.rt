@@ -186,7 +186,9 @@ pub fn pause_number(p: Result<Pause, Refusal>) -> u64
 
 // What a call for the report came to, in numbers.
 impl From<Fed> for Piece {
-    ghost from_gives = { λ f p. (g : Feeding) (at : ℕ) (before after : List ℕ) → IsFed g at 0 before f after → IsPiece g at before p after };
+    ghost from_gives = { λ f p. (g : Feeding) (at : ℕ) (before after : List ℕ)
+        → IsFed g at 0 before f after
+        → IsPiece g at before p after };
 
     fn from(f: Fed) -> Piece {
         let Fed {

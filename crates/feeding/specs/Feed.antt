@@ -1,5 +1,6 @@
 -- The report of a log that is fed in pieces: what each call writes, and where it pauses.
-use Rattle.std.specs.Prelude.{ℕ, zero, suc, ◌+◌, ◌*◌, ◌-◌, ◌≡◌, List, [], ◌++◌, Bool, cond, not, ◌&&◌, ◌||◌, eqb, ltb, length, drop, Result, Ok, Err}
+use Rattle.std.specs.Prelude.{ℕ, zero, suc, ◌+◌, ◌*◌, ◌-◌, ◌≡◌, List, [], ◌++◌, Bool, cond, not, ◌&&◌, ◌||◌, eqb, ltb}
+use Rattle.std.specs.Prelude.{length, drop, Result, Ok, Err}
 use Rattle.model.specs.Answer.{Answer, refused, answer}
 use Rattle.model.specs.Decide.{decide}
 use Rattle.model.specs.Limits.{member_limit}

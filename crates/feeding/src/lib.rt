@@ -29,8 +29,8 @@ pub enum Pause {
     Ended,
 }
 
-// Why the call paused, or row 40, which refused it; the offset that it reached (0 for `close`, which reads nothing), the
-// number of the next record, how many bytes it wrote, and the witness.
+// Why the call paused, or row 40, which refused it; the offset that it reached (0 for `close`, which reads nothing),
+// the number of the next record, how many bytes it wrote, and the witness.
 #[derive(Clone, Copy)]
 pub struct Fed {
     pub pause: Result<Pause, Refusal>,
