@@ -8,7 +8,7 @@ ghost use Rattle.model.specs.Evidence.{our_list};
 ghost use Rattle.model.specs.Paper.{paper};
 ghost use Rattle.checker.specs.Check.{check_of};
 ghost use Rattle.answers.specs.Calls.{check_call, status_call, support_call, conflict_call, write_call, write_buffer};
-ghost use Rattle.answers.specs.Answers.{status_of, support_of, conflict_of, PassesRow40};
+ghost use Rattle.answers.specs.Answers.{status_of, support_of, conflict_of, PassesRow40, PassesRow41};
 
 use finality::Backing;
 use model::{Place, Refusal, Status};
@@ -25,6 +25,17 @@ fn sound(w: Witness) -> Result<(), Refusal>
     }
 }
 
+// Row 41: whether a place is held.
+fn held(w: &Witness, p: Place) -> Result<(), Refusal>
+    ensures { PassesRow41 w.now p.0 result }
+{
+    if (p.0 as usize) < w.checkpoint_count {
+        Ok(())
+    } else {
+        Err(Refusal::PlaceNotHeld)
+    }
+}
+
 // Checking a list of charges: row 40, then 50 to 57 entry by entry; else the sum of the named bonds.
 pub fn check_list(w: Witness, list: &[u8]) -> Result<u64, Refusal>
     ensures { check_of result ≡ check_call w list.now }
@@ -38,11 +49,7 @@ pub fn status(w: Witness, p: Place) -> Result<Status, Refusal>
     ensures { status_of result ≡ status_call w p.0 }
 {
     sound(w)?;
-    let place = p.0 as usize;
-    let count = w.checkpoint_count;
-    if count <= place {
-        return Err(Refusal::PlaceNotHeld);
-    }
+    held(&w, p)?;
     Ok(finality::status(w, p))
 }
 
@@ -52,15 +59,8 @@ pub fn support(w: Witness, s: Place, t: Place) -> Result<Backing, Refusal>
     ensures { support_of result ≡ support_call w s.0 t.0 }
 {
     sound(w)?;
-    let from = s.0 as usize;
-    let to = t.0 as usize;
-    let count = w.checkpoint_count;
-    if count <= from {
-        return Err(Refusal::PlaceNotHeld);
-    }
-    if count <= to {
-        return Err(Refusal::PlaceNotHeld);
-    }
+    held(&w, s)?;
+    held(&w, t)?;
     Ok(finality::support(w, s, t))
 }
 
