@@ -8,7 +8,7 @@ ghost use Rattle.model.specs.Model.{Model};
 ghost use Rattle.tables.specs.Places.{height_at};
 ghost use Rattle.state.specs.Tables.{NamesHeld, HeightsHeld, AncestorsHeld};
 ghost use Rattle.ballots.specs.Ballot.{link_in, link_answer_of, Within};
-ghost use Rattle.ballots.specs.Fit.{FitTree};
+ghost use Rattle.tables.specs.Places.{Falling};
 
 use model::{Height, Place, Refusal};
 use names::find_name;
@@ -58,7 +58,8 @@ fn check_link(
     source_height: Height,
     target_height: Height,
 ) -> Result<Link, Refusal>
-    requires { FitTree w.now
+    requires { (w.now.checkpoint_count ≤ checkpoint_limit)
+        × Falling w.now.checkpoint_count w.now.parents
         × (link.source.0 < w.now.checkpoint_count)
         × (link.target.0 < w.now.checkpoint_count) }
     ensures { (m : Model)
@@ -77,7 +78,9 @@ fn check_link(
 
 // Rows 31 to 34, on what stands at `from`: two names, then the heights given for them.
 pub fn link_of(w: &Witness, log: &[u8], from: usize) -> Result<Link, Refusal>
-    requires { FitTree w.now × (from + 72 ≤ length log.now) }
+    requires { (w.now.checkpoint_count ≤ checkpoint_limit)
+        × Falling w.now.checkpoint_count w.now.parents
+        × (from + 72 ≤ length log.now) }
     ensures { (m : Model)
         → NamesHeld m w.now.names w.now.checkpoint_count
         → HeightsHeld m w.now.heights w.now.checkpoint_count

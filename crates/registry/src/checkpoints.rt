@@ -3,9 +3,9 @@ ghost use Rattle.std.specs.Prelude.{◌≡◌, ◌+◌, ◌≤◌, length, drop}
 ghost use Rattle.model.specs.Bytes.{part};
 ghost use Rattle.model.specs.Change.{single};
 ghost use Rattle.model.specs.Decide.{decide_checkpoint};
+ghost use Rattle.model.specs.Limits.{checkpoint_limit};
 ghost use Rattle.model.specs.Model.{Model};
-ghost use Rattle.state.specs.Tables.{NamesHeld, HeightsHeld};
-ghost use Rattle.ballots.specs.Fit.{FitTree};
+ghost use Rattle.state.specs.Tables.{NamesHeld, HeightsHeld, Low};
 ghost use Rattle.registry.specs.Decision.{decision_of};
 
 use crate::Decision;
@@ -15,7 +15,9 @@ use state::Witness;
 
 // Rows 20 to 22, on the checkpoint record at `at`.
 pub fn decide_checkpoint(w: &Witness, log: &[u8], at: usize) -> Result<Decision, Refusal>
-    requires { FitTree w.now × (at + 65 ≤ length log.now) }
+    requires { (w.now.checkpoint_count ≤ checkpoint_limit)
+        × Low w.now.checkpoint_count w.now.heights
+        × (at + 65 ≤ length log.now) }
     ensures { (m : Model)
         → NamesHeld m w.now.names w.now.checkpoint_count
         → HeightsHeld m w.now.heights w.now.checkpoint_count

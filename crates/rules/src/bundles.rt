@@ -5,7 +5,8 @@ ghost use Rattle.model.specs.Change.{whole};
 ghost use Rattle.model.specs.Decide.{decide_bundle};
 ghost use Rattle.model.specs.Model.{Model};
 ghost use Rattle.state.specs.Tables.{NamesHeld, HeightsHeld, AncestorsHeld};
-ghost use Rattle.ballots.specs.Fit.{FitTree};
+ghost use Rattle.model.specs.Limits.{checkpoint_limit};
+ghost use Rattle.tables.specs.Places.{Falling};
 ghost use Rattle.registry.specs.Decision.{decision_of};
 ghost use Rattle.rules.specs.Decision.{BitsFit};
 
@@ -16,7 +17,9 @@ use state::Witness;
 
 // Rows 61 and 62, on the bundle at `at`; then 31 to 34, which are the same for all its votes.
 pub fn decide_bundle(w: &Witness, log: &[u8], at: usize) -> Result<Decision, Refusal>
-    requires { FitTree w.now × (at + 89 ≤ length log.now) }
+    requires { (w.now.checkpoint_count ≤ checkpoint_limit)
+        × Falling w.now.checkpoint_count w.now.parents
+        × (at + 89 ≤ length log.now) }
     ensures result_value { (m : Model)
         → length m.members ≡ w.now.member_count
         → NamesHeld m w.now.names w.now.checkpoint_count

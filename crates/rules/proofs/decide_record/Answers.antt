@@ -83,7 +83,7 @@ decide_member-requires c =
 pub decide_checkpoint-requires : goal.decide_checkpoint-requires
 unfolding record_size size_of kind_of
 decide_checkpoint-requires c =
-    (c.requires.tree, omega (arith, long (goal.at.decide_checkpoint-requires c).Else-log-at-2 c.in-Checkpoint.is, c.if-log-at.false))
+    (c.requires.tree.checkpoints-fit, c.requires.tree.low, omega (arith, long (goal.at.decide_checkpoint-requires c).Else-log-at-2 c.in-Checkpoint.is, c.if-log-at.false))
 
 pub decide_vote-requires : goal.decide_vote-requires
 unfolding record_size size_of kind_of
@@ -98,7 +98,7 @@ decide_quorum-requires c =
 pub decide_bundle-requires : goal.decide_bundle-requires
 unfolding record_size size_of kind_of
 decide_bundle-requires c =
-    (c.requires.tree, omega (arith, long (goal.at.decide_bundle-requires c).Else-log-at-2 c.in-Bundle.is, c.if-log-at.false))
+    (c.requires.tree.checkpoints-fit, c.requires.tree.falling, omega (arith, long (goal.at.decide_bundle-requires c).Else-log-at-2 c.in-Bundle.is, c.if-log-at.false))
 
 pub returns-in-Member : goal.returns-in-Member
 unfolding decide_record decode_as kind_of

@@ -75,7 +75,7 @@ returns c =
           ∙ bundle_by_link m (bits (goal.at.returns c).Start) _ _ _ _ (row_61 (goal.at.returns c).After-any_from m count ∙ c.if-any_from.false)
           (row_62 (goal.at.returns c).After-number-votes ∙ ne_eqb _ 0 c.if-votes-eq0.false));
       bits_fit = record {
-        long = omega (arith, c.requires.1, length-drop a.at a.log.now);
+        long = omega (arith, c.requires.2, length-drop a.at a.log.now);
         number = number_is (goal.at.returns c).After-number-votes;
         some = omega (arith, ne_zero c.number-votes.result c.if-votes-eq0.false);
         few = c.number-votes.ensures.1;
