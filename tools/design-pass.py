@@ -308,7 +308,7 @@ def point_4_body(x):
     if re.search(r"if \w+(?:\.\w+)? < \w+ \{\s*return \w+;\s*\}\s*\w+\s*\}$", x.body) \
             or re.search(r"if (\w+) < (\w+) \{ \1 \} else \{ \2 \}", x.body):
         yield x, "min or max by hand", ""
-    for m in set(re.findall(r"(\w+): (\w+)\.\1\b", x.body)):
+    for m in sorted(set(re.findall(r"(\w+): (\w+)\.\1\b", x.body))):
         if len(re.findall(r"\w+: %s\.\w+" % m[1], x.body)) > 2:
             yield x, "a struct rebuilt field by field", m[1] + "." + m[0]
 
