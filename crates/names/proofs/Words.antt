@@ -7,12 +7,11 @@ use mathlib.Core.Bool.{Bool, false}
 use borrow.Author.Count.{below_more}
 use lib.ListN.{take, drop}
 use lib.Seq.{drop-drop, take-take}
-use Rattle.std.specs.Prelude.{Option, Some, None, MatchOption}
 use Rattle.model.specs.Bytes.{part}
 use Rattle.model.specs.Lists.{same_bytes}
 use Rattle.model.proofs.Lists.{not_so, same_eq}
 use Rattle.wire.specs.Words.{le_of}
-use Rattle.names.specs.Rows.{rows, Others}
+use Rattle.names.specs.Rows.{rows}
 use Rattle.search.proofs.Search.{Passed, passed-more}
 use Rattle.names.proofs.Rows.{rows_at}
 
@@ -31,6 +30,10 @@ module _ (names s : List ℕ) (at : ℕ) where
   -- the name of s at `at` is the one looked for
   abbrev sought : List ℕ → Bool
   sought n = same_bytes n (part at 32 s)
+
+  -- from place `from` on, no name before place n is the one
+  abbrev pub Others : ℕ → ℕ → Type 0
+  Others from n = (k : ℕ) → k < n → from ≤ k → sought (part (k * 32) 32 names) ≡ false
 
   -- the name at place k, which the table has at o, has another word at byte d
   pub other_word : (k d o : ℕ) {x y : ℕ}
@@ -52,11 +55,11 @@ module _ (names s : List ℕ) (at : ℕ) where
   pub others-more : {from n : ℕ} (i : ℕ)
       → n ≡ i + 1
       → sought (part (i * 32) 32 names) ≡ false
-      → Others names s at from i
-      → Others names s at from n
+      → Others from i
+      → Others from n
   others-more {from} i next here so =
       subst
-      (Others names s at from)
+      (Others from)
       (sym next)
       (below_more (λ k. from ≤ k → sought (part (k * 32) 32 names) ≡ false) i so (λ _. here))
 
@@ -68,7 +71,7 @@ module _ (names s : List ℕ) (at : ℕ) where
   pub others-passed : (count from n : ℕ)
       → from ≤ n
       → n ≤ count
-      → Others names s at from n
+      → Others from n
       → NamesPassed count from
       → NamesPassed count n
   others-passed count from n low high others so =
@@ -85,17 +88,3 @@ module _ (names s : List ℕ) (at : ℕ) where
           (rows_at count (from + g) names (omega arith))
           (others (from + g) (omega arith) (omega arith))
           (go g (omega arith)))
-
-  -- once the names before `from` are passed, what is alike next is at a place, or all are passed
-  pub alike-next : (count from : ℕ) (r : Option ℕ)
-      → from ≤ count
-      → MatchOption r (Others names s at from count) (λ j. (from ≤ j) × (j < count) × Others names s at from j)
-      → NamesPassed count from
-      → MatchOption r (NamesPassed count count) (λ j. (j < count) × NamesPassed count j)
-  alike-next count from None low so passed = others-passed count from count low (omega arith) so passed
-  alike-next count from (Some j) low so passed = (so.1, others-passed count from j so.0 (omega arith) so.2 passed)
-
--- how many names are left to look at, where the next that is alike is at a place, or there is none
-abbrev pub left_of : ℕ → Option ℕ → ℕ
-left_of count None = 0
-left_of count (Some i) = suc (count - i)

@@ -7,7 +7,7 @@ ghost use Rattle.std.specs.Prelude.{◌≡◌, false, ℕ, ◌+◌, ◌*◌, ◌
 ghost use Rattle.model.specs.Bytes.{part};
 ghost use Rattle.model.specs.Limits.{checkpoint_limit};
 ghost use Rattle.model.specs.Lists.{first_index, pair_below, same_bytes};
-ghost use Rattle.names.specs.Rows.{rows, Others};
+ghost use Rattle.names.specs.Rows.{rows};
 ghost use Rattle.names.specs.Slots.{slots, slot_of};
 
 // How many slots there are, a prime: the remainders of words are taken by it too.
@@ -16,26 +16,36 @@ const PRIME: u64 = 15809;
 const SLOTS: usize = PRIME as usize;
 
 // The first index from `from` on whose name may be the one of s at `at`: every name passed over has another word of 8
-// bytes from byte d on.
-fn next_alike(
-    names: &[u8],
-    count: usize,
-    from: usize,
-    s: &[u8],
-    at: usize,
-    d: usize,
-) -> Option<usize>
+// bytes from byte d on. Four names are looked at in a turn; of fewer that are left the first is given without a look.
+// A `for` over the names that gives an Option takes 1.8 times as many instructions.
+fn next_alike(names: &[u8], count: usize, from: usize, s: &[u8], at: usize, d: usize) -> usize
     requires { (32 * count ≤ length names.now) × (from ≤ count) × (at + 32 ≤ length s.now) × (d + 8 ≤ 32) }
-    ensures { MatchOption result (Others names.now s.now at from count)
-        (λ i. (from ≤ i) × (i < count) × Others names.now s.now at from i) }
+    ensures { (from ≤ result)
+        × (result ≤ count)
+        × ((k : ℕ)
+        → k < result
+        → from ≤ k
+        → same_bytes (part (k * 32) 32 names.now) (part at 32 s.now) ≡ false) }
 {
     let word = wire::le64(s, at + d);
-    for i in from..count {
-        if wire::le64(names, i * 32 + d) == word {
-            return Some(i);
+    let mut i = from;
+    while i + 4 <= count {
+        let k = i * 32 + d;
+        if wire::le64(names, k) == word {
+            return i;
         }
+        if wire::le64(names, k + 32) == word {
+            return i + 1;
+        }
+        if wire::le64(names, k + 64) == word {
+            return i + 2;
+        }
+        if wire::le64(names, k + 96) == word {
+            return i + 3;
+        }
+        i += 4;
     }
-    None
+    i
 }
 
 // The index of the first of the `count` names that is the 32 bytes of s at `at`. Of the four words of a name the last
@@ -47,13 +57,13 @@ pub fn find_name(names: &[u8], count: usize, s: &[u8], at: usize) -> Option<usiz
         (λ i. (i ≡ first_index (λ n. same_bytes n (part at 32 s.now)) (rows count names.now)) × (i < count)) }
 {
     let mut which: usize = 3;
-    let mut next = next_alike(names, count, 0, s, at, which * 8);
-    while let Some(i) = next {
+    let mut i = next_alike(names, count, 0, s, at, which * 8);
+    while i < count {
         if wire::same(names, i * 32, s, at, 32) {
             return Some(i);
         }
         which = (which + 1) % 4;
-        next = next_alike(names, count, i + 1, s, at, which * 8);
+        i = next_alike(names, count, i + 1, s, at, which * 8);
     }
     None
 }
