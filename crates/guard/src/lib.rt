@@ -55,26 +55,33 @@ fn judge(g: Guard, source: Height, target: Height) -> Result<(), Refusal>
     Ok(())
 }
 
-// A vote of these heights, on the record in the host's memory, which is lent: the vote may be signed, and the record
-// then has its heights; or a row refuses it, and the record is as it was.
-pub fn sign(g: &mut Guard, source: Height, target: Height) -> Result<(), Refusal>
-    ensures { IsSigning g.old source.0 target.0 result g.new }
+// A vote of these heights, by value: it may be signed, and the record then has its heights; or a row refuses it, and
+// the record is as it was.
+pub fn step(g: Guard, source: Height, target: Height) -> Signing
+    ensures { IsSigning g source.0 target.0 result.answer result.guard }
 {
-    judge(*g, source, target)?;
-    *g = Guard {
+    let answer = judge(g, source, target);
+    let signed = Guard {
         source,
         target,
         used: 1,
     };
-    Ok(())
+    match answer {
+        Ok(()) => Signing {
+            answer,
+            guard: signed,
+        },
+        Err(_) => Signing { answer, guard: g },
+    }
 }
 
-// The same by value.
-pub fn step(mut g: Guard, source: Height, target: Height) -> Signing
-    ensures { IsSigning g source.0 target.0 result.answer result.guard }
+// The same on the record in the host's memory, which is lent, and rewritten there at a signing.
+pub fn sign(g: &mut Guard, source: Height, target: Height) -> Result<(), Refusal>
+    ensures { IsSigning g.old source.0 target.0 result g.new }
 {
-    let answer = sign(&mut g, source, target);
-    Signing { answer, guard: g }
+    let signing = step(*g, source, target);
+    *g = signing.guard;
+    signing.answer
 }
 
 // The row that refuses a vote, or 0.
