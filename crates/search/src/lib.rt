@@ -96,7 +96,10 @@ impl Links {
             hit |= self.numbers[k] == x;
             at = self.nexts[k];
         }
-        is_held(&self.numbers[..count], x)
+        if 0 < at {
+            return is_held(&self.numbers[..count], x);
+        }
+        hit
     }
 }
 

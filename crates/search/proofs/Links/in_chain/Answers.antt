@@ -15,5 +15,8 @@ pub loop-preserved : goal.loop-preserved
 loop-preserved c =
     rw c.from-k.ensures (walked_more _ _ _ c.loop.at (omega (arith, c.if-at-eq0.false)) (c.requires.2 _ (omega (arith, c.if-at-eq0.false, c.loop.invariant.low, c.requires.1))) refl c.loop.invariant)
 
+pub returns-then-at-gt0 : goal.returns-then-at-gt0
+returns-then-at-gt0 c = λ on chain same. c.is_held.ensures ∙ any_taken c.args.count c.args.self.now.numbers (λ n. eqb n c.args.x) (omega (arith, c.requires.0))
+
 pub returns : goal.returns
-returns c = λ on chain same. c.is_held.ensures ∙ any_taken c.args.count c.args.self.now.numbers (λ n. eqb n c.args.x) (omega (arith, c.requires.0))
+returns c = λ on chain same. walked_all _ _ _ (omega (arith, c.if-at-gt0.false)) c.loop.invariant on _ chain ∙ same
