@@ -1,5 +1,6 @@
-// Big-endian integers of 16, 32 and 64 bits, read from a slice, and of 16 bits written into one. Words of 8 bytes in
-// the machine's order, and the comparison of two runs of bytes. How long a record is, module `records` says.
+// Big-endian integers of 16, 32 and 64 bits, read from a slice, and of 16 bits written into one: the widths share a
+// proof. Words of 8 bytes in the machine's order, and the comparison of two runs of bytes. How long a record is, module
+// `records` says.
 #![tactic(auto)]
 
 ghost use Rattle.std.specs.Prelude.{◌≡◌, ◌++◌, ◌+◌, ◌≤◌, length, drop};

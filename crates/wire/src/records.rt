@@ -30,7 +30,7 @@ impl TryFrom<u8> for Kind {
             3 => Ok(Kind::Vote),
             4 => Ok(Kind::Quorum),
             5 => Ok(Kind::Bundle),
-            _ => Err(UnknownKind(byte)),
+            0 | 6..=255 => Err(UnknownKind(byte)),
         }
     }
 }
