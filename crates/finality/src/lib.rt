@@ -48,7 +48,7 @@ pub fn support(w: Witness, s: Place, t: Place) -> Backing
     let bonds = &w.bonds[..w.member_count];
     let b = votes::prepare(&w);
     let mut voters = [Voters::NOBODY; MAX_CHECKPOINTS];
-    votes::gather(&b, &w.sources, t, &mut voters);
+    votes::gather(&b.who, &w.sources, &b.chains.next, b.chains.head[usize::from(t.0)], &mut voters);
     backed_by(voters[usize::from(s.0)], bonds, b.bar)
 }
 

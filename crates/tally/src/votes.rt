@@ -1,5 +1,5 @@
 // The votes by target, and the voters of every link to one target.
-ghost use Rattle.std.specs.Prelude.{◌≡◌, ℕ, ◌≤◌, ◌<◌, length, get_or};
+ghost use Rattle.std.specs.Prelude.{◌≡◌, ℕ, ◌≤◌, ◌<◌, length};
 ghost use Rattle.model.specs.Limits.{member_limit, checkpoint_limit, vote_limit};
 ghost use Rattle.tables.specs.Places.{place_at};
 ghost use Rattle.state.specs.Sound.{Sound};
@@ -74,19 +74,18 @@ pub fn prepare(w: &Witness) -> Ballots
     }
 }
 
-// The voters of the link to t from each source, by the chain of the votes for t, into an array of nobody. `sources` has
-// the votes' sources.
-pub fn gather(b: &Ballots, sources: &[Place], t: Place, voters: &mut [Voters])
-    requires target { t.0 < checkpoint_limit }
-    requires walk { Walkable b.now.who sources.now b.now.chains.next (get_or b.now.chains.head t.0 0) }
+// The voters of each source's link, by the chain of one target's votes that begins with `first`, into an array of
+// nobody. `who` has the places of the votes' members, and `sources` has their sources.
+pub fn gather(who: &[u16], sources: &[Place], next: &[u16], first: u16, voters: &mut [Voters])
+    requires walk { Walkable who.now sources.now next.now first }
     requires blank { voters.old ≡ no_voters }
-    ensures { Tallied b.now.who sources.now b.now.chains.next (get_or b.now.chains.head t.0 0) (voters_at voters.new) }
+    ensures { Tallied who.now sources.now next.now first (voters_at voters.new) }
 {
-    let mut at = b.chains.head[usize::from(t.0)];
+    let mut at = first;
     while let Some(vote) = at.checked_sub(1) {
         let k = usize::from(vote);
         let source = usize::from(sources[k].0);
-        voters[source].insert(usize::from(b.who[k]));
-        at = b.chains.next[k];
+        voters[source].insert(usize::from(who[k]));
+        at = next[k];
     }
 }

@@ -4,7 +4,7 @@ use Rattle.tally.proofs.Chains.{gathered_none, gathered_next, gathered_all}
 use Rattle.tally.proofs.votes.gather.Goals as goal
 
 pub loop-vote-init : goal.loop-vote-init
-loop-vote-init c = rw c.from.ensures (gathered_none _ _ _ _ c.requires.blank)
+loop-vote-init c = gathered_none _ _ _ _ c.requires.blank
 
 pub loop-vote-preserved : goal.loop-vote-preserved
 loop-vote-preserved c =
@@ -12,7 +12,7 @@ loop-vote-preserved c =
     gathered_next _ _ _ _ _ _ _ _ c.loop-vote.voters c.insert.new.self
     (omega (arith, c.from-k.ensures, is.0, is.1))
     c.from-source.ensures
-    c.from-in-Some.ensures
+    c.from.ensures
     c.requires.walk
     c.loop-vote.invariant
     c.insert.ensures
