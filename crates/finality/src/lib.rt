@@ -47,9 +47,11 @@ pub fn support(w: Witness, s: Place, t: Place) -> Backing
 {
     let bonds = &w.bonds[..w.member_count];
     let b = votes::prepare(&w);
+    let source = usize::from(s.0);
+    let target = usize::from(t.0);
     let mut voters = [Voters::NOBODY; MAX_CHECKPOINTS];
-    votes::gather(&b.who, &w.sources, &b.chains.next, b.chains.head[usize::from(t.0)], &mut voters);
-    backed_by(voters[usize::from(s.0)], bonds, b.bar)
+    votes::gather(&b.who, &w.sources, &b.chains.next, b.chains.head[target], &mut voters);
+    backed_by(voters[source], bonds, b.bar)
 }
 
 // The standing of a held place.

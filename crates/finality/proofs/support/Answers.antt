@@ -13,15 +13,15 @@ low c = let few = few-checkpoints _ c.requires.0 in (omega arith, omega arith)
 pub shared_ref_as_front-bonds : goal.shared_ref_as_front-bonds
 shared_ref_as_front-bonds c = few-members _ c.requires.0
 
-pub bounds-b-from : goal.bounds-b-from
-bounds-b-from c = rw c.from.ensures (low (goal.at.bounds-b-from c).After-prepare-b).1
+pub bounds-b-target : goal.bounds-b-target
+bounds-b-target c = rw c.from-target.ensures (low (goal.at.bounds-b-target c).After-prepare-b).1
 
 pub gather-requires-clause-walk : goal.gather-requires-clause-walk
 gather-requires-clause-walk c =
-    rw c.from.ensures (ready-walk c.prepare-b.ensures _ (low (goal.at.gather-requires-clause-walk c).After-prepare-b).1)
+    rw c.from-target.ensures (ready-walk c.prepare-b.ensures _ (low (goal.at.gather-requires-clause-walk c).After-prepare-b).1)
 
-pub bounds-voters-from : goal.bounds-voters-from
-bounds-voters-from c = rw c.from-2.ensures (low (goal.at.bounds-voters-from c).After-prepare-b).0
+pub bounds-voters-source : goal.bounds-voters-source
+bounds-voters-source c = rw c.from-source.ensures (low (goal.at.bounds-voters-source c).After-prepare-b).0
 
 pub backed_by-requires : goal.backed_by-requires
 backed_by-requires c = (ready-bonds c.prepare-b.ensures, ready-bar c.prepare-b.ensures)
@@ -31,7 +31,7 @@ returns c =
     let r = c.prepare-b.ensures in
     let is = c.backed_by.ensures in
     let places = low (goal.at.returns c).After-prepare-b in
-    ready-support r _ _ places.1 (rw c.from.ensures at c.gather.ensures) _ places.0
-    (rw c.from-2.ensures at is.number)
-    (rw c.from-2.ensures at is.weight)
+    ready-support r _ _ places.1 (rw c.from-target.ensures at c.gather.ensures) _ places.0
+    (rw c.from-source.ensures at is.number)
+    (rw c.from-source.ensures at is.weight)
     is.yes?
