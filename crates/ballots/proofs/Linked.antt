@@ -5,13 +5,14 @@ use mathlib.Core.Path.{◌≡◌, refl, sym, ap, ap₂, ◌∙◌, subst}
 use mathlib.Core.List.{List}
 use mathlib.Core.Bool.{Bool, true, false, ◌&&◌, not}
 use borrow.Author.Tests.{lt-ltb, le-ltb}
-use lib.ListN.{drop}
+use lib.ListN.{length, drop}
+use lib.Seq.{take-length}
 use lib.Dec.{eqb, ltb}
 use Rattle.model.specs.Answer.{answer, row}
 use Rattle.model.specs.Bytes.{field, part}
 use Rattle.model.specs.Decide.{heights_agree, link_between, link_of}
 use Rattle.model.specs.Lists.{first_index, same_bytes}
-use Rattle.model.specs.Model.{Model, Link, link, place_of, name_held}
+use Rattle.model.specs.Model.{Model, Link, link, place_of, id_held, name_held}
 use Rattle.model.specs.Tree.{ancestor?}
 use Rattle.std.specs.Prelude.{Option, Some, None, Ok, Err, MatchOption}
 use Rattle.std.specs.Option.{is_some, ok_or}
@@ -19,8 +20,9 @@ use Rattle.model.specs.declared.Height.{Height}
 use Rattle.model.specs.declared.Refusal.{Refusal}
 use Rattle.tables.specs.Places.{height_at}
 use Rattle.names.specs.Rows.{rows}
-use Rattle.state.specs.Tables.{NamesHeld, HeightsHeld}
+use Rattle.state.specs.Tables.{MembersHeld, NamesHeld, HeightsHeld}
 use Rattle.state.proofs.Fields.{part_at, field_at}
+use Rattle.state.proofs.Held.{id-none, id-some}
 
 -- the place found in the table is the model's, and so is whether the name is held; the name stands in the log at `from`
 module _ {m : Model} {names : List ℕ} {n : ℕ} (from : ℕ) (log : List ℕ) {r : ℕ} where
@@ -47,6 +49,24 @@ module _ {m : Model} {names : List ℕ} {n : ℕ} (from : ℕ) (log : List ℕ) 
   pub name-found : (r : Option ℕ) → MatchOption r (first ≡ n) (λ i. (i ≡ first) × (i < n)) → name_held m (part from 32 log) ≡ is_some r
   name-found None e = held-none e
   name-found (Some i) so = held-some so
+
+-- whether a member is held, by what the search among all the ids gave
+module _ {m : Model} {ids : List ℕ} (id : ℕ) (held : MembersHeld m ids (length ids)) where
+  abbrev at_id : List ℕ → ℕ
+  at_id l = first_index (λ x. eqb x id) l
+
+  pub id-none-among : at_id ids ≡ length ids → id_held m id ≡ false
+  id-none-among e =
+      id-none id held (omega arith) (subst (λ (l : List ℕ). at_id l ≡ length l) (sym (take-length ids)) e)
+
+  pub id-some-among : {i : ℕ} → (i ≡ at_id ids) × (i < length ids) → id_held m id ≡ true
+  id-some-among {i} so =
+      id-some id held (omega arith) (subst (λ (l : List ℕ). (i ≡ at_id l) × (i < length l)) (sym (take-length ids)) so)
+
+  pub id-found-among : (r : Option ℕ) → MatchOption r (at_id ids ≡ length ids) (λ i. (i ≡ at_id ids) × (i < length ids))
+      → id_held m id ≡ is_some r
+  id-found-among None e = id-none-among e
+  id-found-among (Some i) so = id-some-among so
 
 -- what was found, or the refusal where nothing was
 pub found-none : (P : Type 0) (Q : ℕ → Type 0) (e : Refusal) {x : Refusal} (r : Option ℕ) → ok_or r e ≡ Err x → MatchOption r P Q → P × (x ≡ e)

@@ -3,4 +3,5 @@
 #![tactic(auto)]
 
 pub mod links;
+pub mod view;
 pub mod votes;

@@ -25,10 +25,10 @@ use Rattle.bits.proofs.SetPlaces.{set_below, one_more, none_more}
 use Rattle.ballots.specs.Ballot.{cast_vote}
 use Rattle.registry.specs.Decision.{cast_each}
 use Rattle.rules.proofs.Bundled.{after_each, each_more, each_fits, each-members, each_number}
-use Rattle.entries.specs.Entries.{later, marked, rows_of, Written}
+use Rattle.entries.specs.Entries.{later, marked, rows_of, entries_of, Written}
 use Rattle.entries.proofs.Entries.{write_one, marked_more}
 use Rattle.search.specs.declared.Links.{Links}
-use Rattle.reader.specs.Storing.{Searched, bundle_cast, Stores}
+use Rattle.reader.specs.Storing.{Searched, bundle_cast}
 
 module _ (w : Witness) (l : Answer Link) (bits : List ℕ) where
   -- the ids of the places below p whose bits are set, and what is decided on their votes
@@ -185,15 +185,21 @@ none-cast w l bits before links used inside searched =
     }
 
 -- all are: what is held is the bundle's, and its entries stand
+pub record Cast (w : Witness) (l : Answer Link) (bits before : List ℕ) (links : Links) (used : ℕ) (rows : List ℕ)
+    (held : Witness) (end : ℕ) : Type 0 where
+  pub all-stored : held ≡ stored w (bundle_cast w l bits)
+  pub searched : Searched held links
+  pub all-written : Written (take used before ++ entries_of (bundle_cast w l bits).told) before rows end
+  pub all_past : end ≡ used + length (set_places bits)
+
 pub all-cast : {w : Witness} {l : Answer Link} {bits before : List ℕ} {links : Links} {used p : ℕ} {rows : List ℕ} {held : Witness} {end : ℕ}
-    → Casting w l bits before links used p rows held end → 128 ≤ p → 0 < length (set_places bits)
-    → Stores w (bundle_cast w l bits) before used rows held links end
+    → Casting w l bits before links used p rows held end → 128 ≤ p → Cast w l bits before links used rows held end
 unfolding bundle_ids set_places together rows_of
-all-cast {w} {l} {bits} {before} {links} {used} {p} {rows} {held} {end} c past some =
+all-cast {w} {l} {bits} {before} {links} {used} {p} {rows} {held} {end} c past =
     let last : p ≡ 128 = omega (arith, c.places) in
     record {
       all-stored = c.stored_so_far ∙ ap (λ (q : ℕ). stored w (together (votes_below w l bits q))) last;
       searched = c.searched;
       all-written = subst (λ (q : ℕ). Written (take used before ++ marked (rows_below w l bits q)) before rows end) last c.written;
-      past = omega (arith, c.past, ap (λ (q : ℕ). length (set_below bits q)) last, some);
+      all_past = c.past ∙ ap (λ (q : ℕ). used + length (set_below bits q)) last;
     }

@@ -3,6 +3,7 @@ pub mod Runs
 pub mod Made
 pub mod Decisions
 pub mod Searched
+pub mod Viewed
 pub mod Casting
 pub mod Votes
 pub mod Single

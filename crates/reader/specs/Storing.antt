@@ -9,8 +9,18 @@ use Rattle.search.specs.declared.Links.{Links}
 use Rattle.state.specs.State.{model_of, stored}
 use Rattle.state.specs.Tables.{KeysHeld}
 use Rattle.state.specs.declared.Witness.{Witness}
+use Rattle.ballots.specs.declared.view.View.{View}
 use Rattle.registry.specs.Decision.{cast_each}
 use Rattle.entries.specs.Entries.{entries_of, Written}
+
+-- a view of what is held: the front of each table, but all of the names
+pub record IsView (w : Witness) (v : View) : Type 0 where
+  pub ids : v.ids.now ≡ take w.member_count w.ids
+  pub names : v.names.now ≡ w.names
+  pub parents : v.parents.now ≡ take w.checkpoint_count w.parents
+  pub heights : v.heights.now ≡ take w.checkpoint_count w.heights
+  pub numbers : v.numbers ≡ w.numbers
+  pub votes : v.votes ≡ w.vote_count
 
 -- the numbers are those of the votes held
 pub record Searched (w : Witness) (links : Links) : Type 0 where

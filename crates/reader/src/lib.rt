@@ -6,7 +6,7 @@ ghost use Rattle.std.specs.Prelude.{Ok};
 ghost use Rattle.model.specs.Bits.{set_places};
 ghost use Rattle.model.specs.Bytes.{part};
 ghost use Rattle.model.specs.Decide.{decide};
-ghost use Rattle.model.specs.Limits.{member_limit, vote_limit};
+ghost use Rattle.model.specs.Limits.{member_limit, checkpoint_limit, vote_limit};
 ghost use Rattle.model.specs.Lists.{any};
 ghost use Rattle.state.specs.Sound.{Typed, Sound};
 ghost use Rattle.state.specs.State.{model_of, with_vote};
@@ -14,9 +14,10 @@ ghost use Rattle.ballots.specs.Ballot.{vote_in, link_answer_of};
 ghost use Rattle.registry.specs.Decision.{decision_of};
 ghost use Rattle.rules.specs.Decision.{BitsFit};
 ghost use Rattle.reader.specs.Many.{read_many, IsBatch};
-ghost use Rattle.reader.specs.Storing.{Searched, bundle_cast, Stores};
+ghost use Rattle.reader.specs.Storing.{IsView, Searched, bundle_cast, Stores};
 
 use ballots::links::Link;
+use ballots::view::View;
 use ballots::votes::{Ballot, decide_cast};
 use model::{MAX_MEMBERS, Refusal};
 use registry::Decision;
@@ -36,6 +37,22 @@ pub struct Batch {
     pub records: u64,
     pub used: usize,
     pub witness: Witness,
+}
+
+// What the rows look at: of each table of the state what is held.
+fn view_of<'a>(held: &'a Witness) -> View<'a>
+    requires { (held.now.member_count ≤ member_limit) × (held.now.checkpoint_count ≤ checkpoint_limit) }
+    ensures { IsView held.now result }
+{
+    let checkpoints = held.checkpoint_count;
+    View {
+        ids: &held.ids[..held.member_count],
+        names: &held.names,
+        parents: &held.parents[..checkpoints],
+        heights: &held.heights[..checkpoints],
+        numbers: held.numbers,
+        votes: held.vote_count,
+    }
 }
 
 // A vote that has room is held, and its number stands in its chain.
@@ -73,7 +90,7 @@ fn cast_votes(
     let mut end = used;
     for p in 0..MAX_MEMBERS {
         if bits::is_set(log, at + 1, p) {
-            let vote = decide_cast(held, links, link, held.ids[p]);
+            let vote = decide_cast(links, held.vote_count, link, held.ids[p]);
             rows[end] = entries::vote_entry(vote, end == used);
             end += 1;
             if let Ok(ballot) = vote {
@@ -147,7 +164,8 @@ pub fn read_many(w: Witness, log: &[u8], at: usize, limit: u64, rows: &mut [u8])
     let mut records: u64 = 0;
     let mut used: usize = 0;
     while (records < limit) & (MAX_MEMBERS <= rows.len() - used) {
-        let decided = rules::decide_record(&held, &links, log, next);
+        let view = view_of(&held);
+        let decided = rules::decide_record(&view, &links, log, next);
         let outcome = rules::outcome_of(decided);
         let passed = wire::records::record_length(log, next);
         if passed == 0 {

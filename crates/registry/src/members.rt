@@ -9,15 +9,14 @@ ghost use Rattle.registry.specs.Decision.{decision_of};
 
 use crate::Decision;
 use model::{MAX_BOND, MAX_MEMBERS, Refusal};
-use state::Witness;
 use tables::find_id;
 
-// Rows 10 to 13, on the member record at `at`; `fixed` is row 10's condition.
-pub fn decide_member(w: &Witness, fixed: bool, log: &[u8], at: usize) -> Result<Decision, Refusal>
-    requires { (w.now.member_count ≤ length w.now.ids) × (at + 11 ≤ length log.now) }
+// Rows 10 to 13, on the member record at `at`: the ids of those held; `fixed` is row 10's condition.
+pub fn decide_member(ids: &[u16], fixed: bool, log: &[u8], at: usize) -> Result<Decision, Refusal>
+    requires { at + 11 ≤ length log.now }
     ensures { (m : Model)
         → members_fixed m ≡ fixed
-        → MembersHeld m w.now.ids w.now.member_count
+        → MembersHeld m ids.now (length ids.now)
         → let s = drop at log.now in
         decision_of m s result ≡ single (decide_member m (record { id = field 1 2 s; bond = field 3 8 s })) }
 {
@@ -29,10 +28,10 @@ pub fn decide_member(w: &Witness, fixed: bool, log: &[u8], at: usize) -> Result<
         return Err(Refusal::BondOutOfRange);
     }
     let id = wire::be16(log, at + 1);
-    if find_id(&w.ids[..w.member_count], id).is_some() {
+    if find_id(ids, id).is_some() {
         return Err(Refusal::IdHeld);
     }
-    if MAX_MEMBERS <= w.member_count {
+    if MAX_MEMBERS <= ids.len() {
         return Err(Refusal::MembersFull);
     }
     Ok(Decision::Member(id, bond))

@@ -2,21 +2,21 @@
 // checkpoint and a quorum is in crate `registry`, and on a link and one vote for it in crate `ballots`.
 #![tactic(auto)]
 
-ghost use Rattle.std.specs.Prelude.{◌≡◌, ◌<◌, ℕ, List, drop};
+ghost use Rattle.std.specs.Prelude.{◌≡◌, ◌<◌, ℕ, List, length, drop};
 ghost use Rattle.model.specs.Decide.{members_fixed, decide};
 ghost use Rattle.model.specs.Model.{Model};
 ghost use Rattle.search.specs.declared.Links.{Links};
 ghost use Rattle.state.specs.Reading.{outcome_of, brief};
 ghost use Rattle.state.specs.State.{rule_of, quota_in};
-ghost use Rattle.state.specs.Tables.{Held};
-ghost use Rattle.ballots.specs.Fit.{Fit};
+ghost use Rattle.ballots.specs.Fit.{FitLink, Fit, HeldIn};
 ghost use Rattle.registry.specs.Decision.{decision_of};
 ghost use Rattle.rules.specs.Decision.{BitsFit};
 
+use ballots::view::View;
 use model::Refusal;
 use registry::{Decision, checkpoints, members, quorums};
 use search::Links;
-use state::{Outcome, Passed, Witness};
+use state::{Outcome, Passed};
 use wire::records::Kind;
 
 pub mod bundles;
@@ -37,23 +37,23 @@ pub fn outcome_of(decision: Result<Decision, Refusal>) -> Outcome
 }
 
 // Row 10's condition: a vote is held, or a checkpoint beside the root, or the root stands above height 0.
-fn members_fixed(w: &Witness) -> bool
-    requires { 0 < w.now.checkpoint_count }
-    ensures { (m : Model) (links : Links) → Held m w.now links → members_fixed m ≡ result }
+fn members_fixed(view: &View) -> bool
+    requires { (0 < length view.now.parents.now) × FitLink view.now }
+    ensures { (m : Model) (links : Links) → HeldIn m view.now links → members_fixed m ≡ result }
 {
-    (0 < w.vote_count) | (1 < w.checkpoint_count) | (0 < w.heights[0].0)
+    (0 < view.votes) | (1 < view.parents.len()) | (0 < view.heights[0].0)
 }
 
 // The record at `at`: row 4 where the kind is unknown (it has no size then, so it is never cut), row 5 where the log
-// ends before the record does, then the rows of the kind. The witness is a sound one; its votes come as numbers in
-// chains too, so that one is looked for among few.
-pub fn decide_record(w: &Witness, links: &Links, log: &[u8], at: usize) -> Result<Decision, Refusal>
-    requires { Fit w.now links.now }
+// ends before the record does, then the rows of the kind. The tables are those of a sound witness; the votes come as
+// numbers in chains, so that one is looked for among few.
+pub fn decide_record(view: &View, links: &Links, log: &[u8], at: usize) -> Result<Decision, Refusal>
+    requires { Fit view.now links.now }
     ensures { (m : Model)
-        → m.rule ≡ rule_of (quota_in w.now.numbers)
-        → Held m w.now links.now
+        → m.rule ≡ rule_of (quota_in view.now.numbers)
+        → HeldIn m view.now links.now
         → let s = drop at log.now in
-        (decision_of m s result ≡ decide m s) × BitsFit w.now.member_count s result }
+        (decision_of m s result ≡ decide m s) × BitsFit (length view.now.ids.now) s result }
 {
     if log.len() <= at {
         return Ok(Decision::Nothing);
@@ -64,12 +64,12 @@ pub fn decide_record(w: &Witness, links: &Links, log: &[u8], at: usize) -> Resul
     if log.len() - at < kind.size() {
         return Err(Refusal::CutRecord);
     }
-    let fixed = members_fixed(w);
+    let fixed = members_fixed(view);
     match kind {
-        Kind::Member => members::decide_member(w, fixed, log, at),
-        Kind::Checkpoint => checkpoints::decide_checkpoint(w, log, at),
-        Kind::Vote => votes::decide_vote(w, links, log, at),
-        Kind::Quorum => quorums::decide_quorum(w.numbers, fixed, log, at),
-        Kind::Bundle => bundles::decide_bundle(w, log, at),
+        Kind::Member => members::decide_member(view.ids, fixed, log, at),
+        Kind::Checkpoint => checkpoints::decide_checkpoint(view.names, view.heights, log, at),
+        Kind::Vote => votes::decide_vote(view, links, log, at),
+        Kind::Quorum => quorums::decide_quorum(view.numbers, fixed, log, at),
+        Kind::Bundle => bundles::decide_bundle(view, view.ids.len(), log, at),
     }
 }

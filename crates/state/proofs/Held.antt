@@ -17,7 +17,6 @@ use Rattle.model.proofs.Lists.{first-same, length-tabulate, tabulate-at, any-tab
 use Rattle.tables.specs.Keys.{Packed}
 use Rattle.names.specs.Rows.{rows}
 use Rattle.tables.proofs.Keys.{same-pack, packed_is}
-use Rattle.search.specs.declared.Links.{Links}
 use Rattle.search.proofs.Below.{any-more}
 use Rattle.search.proofs.Pointwise.{any_same}
 use Rattle.tables.proofs.Ancestry.{tree-tabulate}
@@ -81,7 +80,8 @@ module _ (w : Witness) where
             ∙ any_same n (λ k. same_vote (vote_in w k) v) (λ k. eqb (get_or keys k 0) (key_of v)) (λ k h. sym (packed_is w.voters w.sources w.targets packed k v.voter v.source v.target h hs ht));
       }
 
-  pub all_held : {links : Links} → w.member_count ≤ length w.ids → KeysHeld (model_of w) links.numbers w.vote_count → Held (model_of w) w links
+  pub all_held : {keys : List ℕ} → w.member_count ≤ length w.ids → KeysHeld (model_of w) keys w.vote_count
+      → Held (model_of w) w.member_count w.checkpoint_count w.vote_count w.ids w.names w.parents w.heights keys
   all_held fits votes = record { members-held = members-held fits; names-held = names-held; heights-held = heights-held; ancestors_held = ancestors_held; keys_held = votes }
 
 -- whether a member is held, by the search in the table

@@ -7,12 +7,10 @@ use Rattle.model.specs.Model.{Model, Vote, member_index, place_of, height_of, vo
 use Rattle.model.specs.Tree.{ancestor?}
 use Rattle.model.specs.declared.Height.{Height}
 use Rattle.model.specs.declared.Place.{Place}
-use Rattle.search.specs.declared.Links.{Links}
 use Rattle.tables.specs.Keys.{pack}
 use Rattle.tables.specs.Places.{tree_of}
 use Rattle.names.specs.Rows.{rows}
 use Rattle.state.specs.State.{height}
-use Rattle.state.specs.declared.Witness.{Witness}
 
 pub record MembersHeld (m : Model) (ids : List ℕ) (n : ℕ) : Type 0 where
   pub count : length m.members ≡ n
@@ -37,13 +35,14 @@ pub record KeysHeld (m : Model) (keys : List ℕ) (n : ℕ) : Type 0 where
   pub count : length m.votes ≡ n
   pub held : (v : Vote) → v.source < 65536 → v.target < 65536 → vote_held m.votes v ≡ any_below n (λ k. eqb (get_or keys k 0) (key_of v))
 
--- all of them: those of a witness, and its votes' numbers in chains
-pub record Held (m : Model) (w : Witness) (links : Links) : Type 0 where
-  pub members-held : MembersHeld m w.ids w.member_count
-  pub names-held : NamesHeld m w.names w.checkpoint_count
-  pub heights-held : HeightsHeld m w.heights w.checkpoint_count
-  pub ancestors_held : AncestorsHeld m w.parents w.checkpoint_count
-  pub keys_held : KeysHeld m links.numbers w.vote_count
+-- all of them: the tables of so many members and checkpoints, and the numbers of so many votes
+pub record Held (m : Model) (members checkpoints votes : ℕ) (ids names : List ℕ) (parents : List Place)
+    (heights : List Height) (keys : List ℕ) : Type 0 where
+  pub members-held : MembersHeld m ids members
+  pub names-held : NamesHeld m names checkpoints
+  pub heights-held : HeightsHeld m heights checkpoints
+  pub ancestors_held : AncestorsHeld m parents checkpoints
+  pub keys_held : KeysHeld m keys votes
 
 -- no checkpoint is higher above the greatest height of a root than its place says, so that a child's height fits
 abbrev pub Low : ℕ → List Height → Type 0

@@ -143,4 +143,11 @@ loop-p-preserved c =
     ]
 
 pub returns : goal.returns
-returns c = all-cast c.loop-p.invariant (omega (arith, c.loop-p-test.false)) c.requires.bits.2
+returns c =
+    let all = all-cast c.loop-p.invariant (omega (arith, c.loop-p-test.false)) in
+    record {
+      all-stored = all.all-stored;
+      searched = all.searched;
+      all-written = all.all-written;
+      past = omega (arith, all.all_past, c.requires.bits.2);
+    }

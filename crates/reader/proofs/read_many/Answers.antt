@@ -19,17 +19,18 @@ use Rattle.tables.proofs.Taken.{packed-taken}
 use Rattle.registry.specs.Decision.{decision_of}
 use Rattle.rules.specs.Decision.{BitsFit}
 use Rattle.state.specs.Reading.{outcome_of, brief}
-use Rattle.state.specs.State.{model_of, store_all, stored}
+use Rattle.state.specs.State.{rule_of, quota_in, model_of, store_all, stored}
+use Rattle.state.specs.declared.Numbers.{Numbers}
 use Rattle.state.specs.declared.Witness.{Witness}
-use Rattle.state.proofs.Entries.{count-checkpoints}
-use Rattle.state.proofs.Held.{keys_held, all_held, rule-held}
-use Rattle.state.proofs.Sound.{few-checkpoints, few-votes, ids-long, voters-long, falling, low-heights}
+use Rattle.state.proofs.Held.{keys_held, rule-held}
+use Rattle.state.proofs.Sound.{few-members, few-checkpoints, few-votes, voters-long}
 use Rattle.entries.specs.Entries.{entries_of, Written}
 use Rattle.entries.proofs.Entries.{write_one, write_front, write_behind, refused-entry}
 use Rattle.reader.specs.Many.{read_many}
 use Rattle.reader.specs.Storing.{Stores}
 use Rattle.reader.proofs.Decisions.{Says}
 use Rattle.reader.proofs.Made.{length-inside}
+use Rattle.reader.proofs.Viewed.{ids-number, view-held, view-fits}
 use Rattle.reader.proofs.Runs.{Sofar, none_yet, all_read, ended, passed}
 use Rattle.reader.proofs.read_many.Goals as goal
 use Rattle.reader.proofs.read_many.Goals.{After-decide_record-decided, After-record_length-passed, In-loop-records, In-Ok, Joined-decided, in-Ok, in-Err}
@@ -59,7 +60,11 @@ known : (c : After-decide_record-decided)
 known c =
     let w = held c in
     let sound = c.loop-records.invariant.0.sound in
-    c.decide_record-decided.ensures (model_of w) (rule-held w) (all_held w (ids-long w sound) c.loop-records.invariant.1.votes)
+    let so = c.loop-records.invariant.1 in
+    let is = c.view_of-view.ensures in
+    let rule = rule-held w ∙ ap (λ (n : Numbers). rule_of (quota_in n)) (sym is.numbers) in
+    let decided = c.decide_record-decided.ensures (model_of w) rule (view-held w sound so is) in
+    (decided.0, subst (λ (n : ℕ). BitsFit n (s c) c.decide_record-decided.result) (ids-number w sound so is) decided.1)
 
 pub shared_ref_as_front-index : goal.shared_ref_as_front-index
 shared_ref_as_front-index c = few-votes c.args.w c.requires
@@ -76,20 +81,15 @@ loop-records-init c =
       },
     )
 
+pub view_of-view-requires : goal.view_of-view-requires
+view_of-view-requires c =
+    let w = c.loop-records.held in
+    let sound = c.loop-records.invariant.0.sound in
+    (few-members w sound, few-checkpoints w sound)
+
 pub decide_record-decided-requires : goal.decide_record-decided-requires
 decide_record-decided-requires c =
-    let w = c.loop-records.held in
-    let so = c.loop-records.invariant.0.sound in
-    record {
-      members-fit = ids-long w so;
-      tree = record {
-        rooted = omega (arith, so.good.tree.rooted, count-checkpoints w);
-        checkpoints-fit = few-checkpoints w so;
-        falling = falling w so;
-        low = low-heights w so;
-      };
-      votes = record { votes-fit = few-votes w so; indexed = c.loop-records.invariant.1.indexed };
-    }
+    view-fits c.loop-records.held c.loop-records.invariant.0.sound c.loop-records.invariant.1 c.view_of-view.ensures
 
 -- what is told of the record
 told_is : (p : After-record_length-passed)

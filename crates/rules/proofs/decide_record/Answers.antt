@@ -1,7 +1,7 @@
 -- `rules::decide_record` meets its contract: row 4 by the kind, row 5 by its size, then the rows of the kind. Assumes
 -- nothing.
 use Prim.Native.Nat.{ℕ, ◌-◌, ◌<◌, ◌≤◌}
-use mathlib.Core.Path.{◌≡◌, refl, sym, ap, ◌∙◌}
+use mathlib.Core.Path.{◌≡◌, refl, sym, ap, ◌∙◌, subst}
 use mathlib.Core.List.{List}
 use native.Mathlib.Omega.{arith}
 use lib.ListN.{length, drop, get_or}
@@ -15,6 +15,8 @@ use Rattle.model.specs.declared.Refusal.{Refusal}
 use Rattle.model.proofs.Log.{none-at, cut_at, whole-at}
 use Rattle.wire.specs.Kinds.{byte_of}
 use Rattle.wire.specs.declared.records.Kind.{Kind as CodeKind}
+use Rattle.state.specs.Tables.{NamesHeld, HeightsHeld, Low}
+use Rattle.ballots.specs.Fit.{FitNames}
 use Rattle.registry.specs.Decision.{decision_of}
 use Rattle.registry.specs.declared.Decision.{Decision}
 use Rattle.rules.specs.Decision.{BitsFit}
@@ -52,7 +54,8 @@ of-kind c e = sym (ap kind_of c.in-Ok.ensures) ∙ ap (λ (k : CodeKind). kind_o
 -- what one record's rows decide is no bundle
 alone : (c : Else-log-at-2) (m : Model) {k : CodeKind} (d : Result Decision Refusal) (a : Answer Change) → c.in-Ok.kind ≡ k
     → (let t = drop c.args.at c.args.log.now in (decision_of m t d ≡ single a) × (single a ≡ decide_record m (decode_as (kind_of (byte_of k)) t)))
-    → let t = drop c.args.at c.args.log.now in (decision_of m t d ≡ decide m t) × BitsFit c.args.w.now.member_count t d
+    → let t = drop c.args.at c.args.log.now in
+    (decision_of m t d ≡ decide m t) × BitsFit (length c.args.view.now.ids.now) t d
 alone c m d a e is = (is.0 ∙ is.1 ∙ by_kind (goal.at.Else-log-at-2 c).After-try_from m (fits c) (of-kind c e), single-fits m _ _ a d is.0)
 
 pub returns-then-log-at : goal.returns-then-log-at
@@ -78,12 +81,18 @@ returns-then-log-at-2 c =
 pub decide_member-requires : goal.decide_member-requires
 unfolding record_size size_of kind_of
 decide_member-requires c =
-    (c.requires.members-fit, omega (arith, long (goal.at.decide_member-requires c).Else-log-at-2 c.in-Member.is, c.if-log-at.false))
+    omega (arith, long (goal.at.decide_member-requires c).Else-log-at-2 c.in-Member.is, c.if-log-at.false)
 
 pub decide_checkpoint-requires : goal.decide_checkpoint-requires
 unfolding record_size size_of kind_of
 decide_checkpoint-requires c =
-    (c.requires.tree.checkpoints-fit, c.requires.tree.low, omega (arith, long (goal.at.decide_checkpoint-requires c).Else-log-at-2 c.in-Checkpoint.is, c.if-log-at.false))
+    let a = c.args.view.now in
+    let same = sym c.requires.tree.heights-long in
+    let whole = long (goal.at.decide_checkpoint-requires c).Else-log-at-2 c.in-Checkpoint.is in (
+      subst (FitNames a.names.now) same c.requires.tree.named,
+      subst (λ (n : ℕ). Low n a.heights.now) same c.requires.low,
+      omega (arith, whole, c.if-log-at.false),
+    )
 
 pub decide_vote-requires : goal.decide_vote-requires
 unfolding record_size size_of kind_of
@@ -98,21 +107,27 @@ decide_quorum-requires c =
 pub decide_bundle-requires : goal.decide_bundle-requires
 unfolding record_size size_of kind_of
 decide_bundle-requires c =
-    (c.requires.tree.checkpoints-fit, c.requires.tree.falling, omega (arith, long (goal.at.decide_bundle-requires c).Else-log-at-2 c.in-Bundle.is, c.if-log-at.false))
+    let whole = long (goal.at.decide_bundle-requires c).Else-log-at-2 c.in-Bundle.is in
+    (c.requires.tree, omega (arith, whole, c.if-log-at.false))
 
 pub returns-in-Member : goal.returns-in-Member
 unfolding decide_record decode_as kind_of
 returns-in-Member c =
     λ m rule held.
     alone (goal.at.returns-in-Member c).Else-log-at-2 m c.decide_member.result _ c.in-Member.is
-    (c.decide_member.ensures m (c.members_fixed-fixed.ensures m _ held) held.members-held, refl)
+    (c.decide_member.ensures m (c.members_fixed-fixed.ensures m c.args.links.now held) held.members-held, refl)
 
 pub returns-in-Checkpoint : goal.returns-in-Checkpoint
 unfolding decide_record decode_as kind_of
 returns-in-Checkpoint c =
+    let a = c.args.view.now in
+    let same = sym c.requires.tree.heights-long in
     λ m rule held.
-    alone (goal.at.returns-in-Checkpoint c).Else-log-at-2 m c.decide_checkpoint.result _ c.in-Checkpoint.is
-    (c.decide_checkpoint.ensures m held.names-held held.heights-held, refl)
+    alone (goal.at.returns-in-Checkpoint c).Else-log-at-2 m c.decide_checkpoint.result _ c.in-Checkpoint.is (
+      c.decide_checkpoint.ensures m (subst (NamesHeld m a.names.now) same held.names-held)
+          (subst (HeightsHeld m a.heights.now) same held.heights-held),
+      refl,
+    )
 
 pub returns-in-Vote : goal.returns-in-Vote
 unfolding decide_record decode_as kind_of
@@ -126,7 +141,7 @@ unfolding decide_record decode_as kind_of
 returns-in-Quorum c =
     λ m rule held.
     alone (goal.at.returns-in-Quorum c).Else-log-at-2 m c.decide_quorum.result _ c.in-Quorum.is
-    (c.decide_quorum.ensures m (c.members_fixed-fixed.ensures m _ held) rule, refl)
+    (c.decide_quorum.ensures m (c.members_fixed-fixed.ensures m c.args.links.now held) rule, refl)
 
 pub returns-in-Bundle : goal.returns-in-Bundle
 unfolding decide_record decode_as kind_of

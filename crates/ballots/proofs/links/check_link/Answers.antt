@@ -1,5 +1,6 @@
 -- `ballots::links::check_link` meets its contract: its tests are rows 33 and 34, in their order. Assumes nothing.
 use mathlib.Core.Path.{◌≡◌, refl, sym, ◌∙◌}
+use lib.ListN.{length}
 use Rattle.model.specs.Answer.{row}
 use Rattle.model.specs.Decide.{heights_agree}
 use Rattle.model.specs.Model.{Model}
@@ -11,14 +12,14 @@ use Rattle.ballots.proofs.links.check_link.Goals as goal
 use Rattle.ballots.proofs.links.check_link.Goals.{After-heights_agree, After-is_ancestor}
 
 level-is : (c : After-heights_agree) {m : Model} → let a = c.args in
-    HeightsHeld m a.w.now.heights a.w.now.checkpoint_count
+    HeightsHeld m a.view.now.heights.now (length a.view.now.parents.now)
     → heights_agree m (link_in a.link) a.source_height.0 a.target_height.0 ≡ c.heights_agree.result
-level-is c held = heights_are held _ _ _ c.requires.2 c.requires.3 ∙ sym c.heights_agree.ensures
+level-is c held = heights_are held _ _ _ c.requires.1 c.requires.2 ∙ sym c.heights_agree.ensures
 
 climb-is : (c : After-is_ancestor) {m : Model} → let a = c.args in
-    AncestorsHeld m a.w.now.parents a.w.now.checkpoint_count
+    AncestorsHeld m a.view.now.parents.now (length a.view.now.parents.now)
     → ancestor? m.checkpoints a.link.source.0 a.link.target.0 ≡ c.is_ancestor.result
-climb-is c held = held.ancestor _ _ ∙ sym (c.is_ancestor.ensures _ c.requires.3 c.requires.1)
+climb-is c held = held.ancestor _ _ ∙ sym (c.is_ancestor.ensures _ c.requires.2 c.requires.0.falling)
 
 pub returns-then-not-heights_agree : goal.returns-then-not-heights_agree
 unfolding row

@@ -16,12 +16,12 @@ abbrev vote : After-contains → Vote
 vote c = let a = c.args in vote_for a.voter a.link.source.0 a.link.target.0
 
 held-is : (c : After-contains) {m : Model} → let a = c.args in
-    KeysHeld m a.links.now.numbers a.w.now.vote_count → vote_held m.votes (vote c) ≡ c.contains.result
+    KeysHeld m a.links.now.numbers a.votes → vote_held m.votes (vote c) ≡ c.contains.result
 held-is c held =
     let a = c.args in
     let key = c.key.ensures in
     held.held _ key.1 key.2
-    ∙ ap (λ (x : ℕ). any_below a.w.now.vote_count (λ k. eqb (get_or a.links.now.numbers k 0) x)) (sym key.0)
+    ∙ ap (λ (x : ℕ). any_below a.votes (λ k. eqb (get_or a.links.now.numbers k 0) x)) (sym key.0)
     ∙ sym c.contains.ensures
 
 pub returns-then-contains : goal.returns-then-contains

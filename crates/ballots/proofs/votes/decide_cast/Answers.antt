@@ -14,18 +14,9 @@ returns-in_err-link c =
     let p = err_from_is_err_and c.from_residual.result c.from_residual.ensures.1 in
     rw (p.1, p.2) (ap (λ l. single (and_then (and_then (link_answer_of l) (cast m c.args.voter)) (room m))) (sym c.in_err-link.was))
 
-pub returns-in_err-ballot : goal.returns-in_err-ballot
-unfolding cast_vote and_then
-returns-in_err-ballot c =
-    λ m held.
-    let p = err_from_is_err_and c.from_residual-in_err-ballot.result c.from_residual-in_err-ballot.ensures.1 in
-    rw (p.1, p.2)
-    (ap (λ a. single (and_then a (room m))) (c.in_err-ballot.ensures m held)
-    ∙ ap (λ l. single (and_then (and_then (link_answer_of l) (cast m c.args.voter)) (room m))) (sym c.in_ok-link.was))
-
 pub returns : goal.returns
 unfolding cast_vote and_then
 returns c =
     λ m held.
-    ap single (c.room.ensures m held.count ∙ ap (λ a. and_then a (room m)) (c.in_ok-ballot.ensures m held))
+    ap single (c.room.ensures m held.count ∙ ap (λ a. and_then a (room m)) (c.cast-ballot.ensures m held))
     ∙ ap (λ l. single (and_then (and_then (link_answer_of l) (cast m c.args.voter)) (room m))) (sym c.in_ok-link.was)

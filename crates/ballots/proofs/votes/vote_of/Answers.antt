@@ -10,10 +10,9 @@ use Rattle.model.specs.Answer.{Answer, row, and_then}
 use Rattle.model.specs.Bytes.{field, part}
 use Rattle.model.specs.Decide.{link_of, cast, vote_of}
 use Rattle.model.specs.Model.{Model, Link, id_held}
-use Rattle.state.specs.Tables.{Held}
 use Rattle.state.proofs.Fields.{field_at}
-use Rattle.state.proofs.Held.{id-none, id-some}
-use Rattle.ballots.proofs.Linked.{link-read, found-none, found-some}
+use Rattle.ballots.specs.Fit.{HeldIn}
+use Rattle.ballots.proofs.Linked.{link-read, found-none, found-some, id-none-among, id-some-among}
 use Rattle.ballots.proofs.votes.vote_of.Goals as goal
 use Rattle.ballots.proofs.votes.vote_of.Goals.{After-find_id, In_ok-ok_or, Start}
 
@@ -37,13 +36,15 @@ returns-in_err-ok_or c =
     let t = s (goal.at.returns-in_err-ok_or c).Start in
     let p = err_from_is_err_and c.from_residual.result c.from_residual.ensures.1 in
     let none = found-none _ _ _ c.find_id.result (sym c.ok_or.ensures.value ∙ c.in_err-ok_or.was) c.find_id.ensures in
-    let stranger = ap (id_held m) (id-is (goal.at.returns-in_err-ok_or c).After-find_id) ∙ id-none _ held.members-held c.requires.0.members-fit none.0 in
+    let stranger =
+    ap (id_held m) (id-is (goal.at.returns-in_err-ok_or c).After-find_id) ∙ id-none-among _ held.members-held none.0 in
     rw (p.1, p.2, none.1) (sym (by-member m _ (part 3 32 t) (part 35 32 t) _ _ stranger))
 
-member-held : (c : In_ok-ok_or) (m : Model) → Held m c.args.w.now c.args.links.now → id_held m (field 1 2 (s (goal.at.In_ok-ok_or c).Start)) ≡ true
+member-held : (c : In_ok-ok_or) (m : Model) → HeldIn m c.args.view.now c.args.links.now
+    → id_held m (field 1 2 (s (goal.at.In_ok-ok_or c).Start)) ≡ true
 member-held c m held =
     let some = found-some _ _ _ c.find_id.result (sym c.ok_or.ensures.value ∙ c.in_ok-ok_or.was) c.find_id.ensures in
-    ap (id_held m) (id-is (goal.at.In_ok-ok_or c).After-find_id) ∙ id-some _ held.members-held c.requires.0.members-fit some
+    ap (id_held m) (id-is (goal.at.In_ok-ok_or c).After-find_id) ∙ id-some-among _ held.members-held some
 
 pub returns-in_err-link : goal.returns-in_err-link
 unfolding row and_then

@@ -6,7 +6,7 @@ use mathlib.Core.List.{List}
 use mathlib.Core.Bool.{true}
 use borrow.Author.Tests.{le-leb, lt-leb}
 use lib.Dec.{leb}
-use lib.ListN.{drop}
+use lib.ListN.{length, drop}
 use Rattle.std.specs.Option.{is_some}
 use Rattle.std.proofs.lemmas.Result.{err_from_is_err_and}
 use Rattle.model.specs.Answer.{row}
@@ -26,7 +26,7 @@ s c = drop c.args.at c.args.log.now
 
 -- the tables hold the names
 abbrev Names : Start → Model → Type 0
-Names c m = let w = c.args.w.now in NamesHeld m w.names w.checkpoint_count
+Names c m = let a = c.args in NamesHeld m a.names.now (length a.heights.now)
 
 -- rows 20 and 21, by the searches
 own_name : (c : After-is_some) {m : Model} → Names (goal.at.After-is_some c).Start m → name_held m (part 1 32 (s (goal.at.After-is_some c).Start)) ≡ c.is_some.result

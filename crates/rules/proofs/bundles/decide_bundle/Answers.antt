@@ -35,11 +35,11 @@ bits c = part 1 16 (s (goal.at.Start c).Start)
 bits_are : (c : Start) → part (c.args.at + 1) 16 c.args.log.now ≡ bits (goal.at.Start c).Start
 bits_are c = sym (part_at c.args.at 1 16 c.args.log.now)
 
-past_is : (c : After-any_from) → any (λ p. leb c.args.w.now.member_count p) (set_places (bits (goal.at.After-any_from c).Start)) ≡ c.any_from.result
+past_is : (c : After-any_from) → any (λ p. leb c.args.members p) (set_places (bits (goal.at.After-any_from c).Start)) ≡ c.any_from.result
 past_is c =
-    sym (c.any_from.ensures ∙ ap (λ (b : List ℕ). any (λ p. leb c.args.w.now.member_count p) (set_places b)) (bits_are (goal.at.After-any_from c).Start))
+    sym (c.any_from.ensures ∙ ap (λ (b : List ℕ). any (λ p. leb c.args.members p) (set_places b)) (bits_are (goal.at.After-any_from c).Start))
 
-row_61 : (c : After-any_from) (m : Model) → length m.members ≡ c.args.w.now.member_count → bit_without_member m (bits (goal.at.After-any_from c).Start) ≡ c.any_from.result
+row_61 : (c : After-any_from) (m : Model) → length m.members ≡ c.args.members → bit_without_member m (bits (goal.at.After-any_from c).Start) ≡ c.any_from.result
 unfolding bit_without_member
 row_61 c m count = ap (λ (n : ℕ). any (λ p. leb n p) (set_places (bits (goal.at.After-any_from c).Start))) count ∙ past_is (goal.at.After-any_from c).After-any_from
 
@@ -75,7 +75,7 @@ returns c =
           ∙ bundle_by_link m (bits (goal.at.returns c).Start) _ _ _ _ (row_61 (goal.at.returns c).After-any_from m count ∙ c.if-any_from.false)
           (row_62 (goal.at.returns c).After-number-votes ∙ ne_eqb _ 0 c.if-votes-eq0.false));
       bits_fit = record {
-        long = omega (arith, c.requires.2, length-drop a.at a.log.now);
+        long = omega (arith, c.requires.1, length-drop a.at a.log.now);
         number = number_is (goal.at.returns c).After-number-votes;
         some = omega (arith, ne_zero c.number-votes.result c.if-votes-eq0.false);
         few = c.number-votes.ensures.1;

@@ -6,23 +6,20 @@ use Rattle.model.specs.Change.{single}
 use Rattle.model.specs.Decide.{room, decide_vote}
 use Rattle.rules.proofs.votes.decide_vote.Goals as goal
 
-pub returns-in_err-passed : goal.returns-in_err-passed
-unfolding decide_vote and_then
-returns-in_err-passed c =
-    λ m held.
-    let p = err_from_is_err_and c.from_residual.result c.from_residual.ensures.1 in
-    rw (p.1, p.2) (ap (λ a. single (and_then a (room m))) (c.in_err-passed.ensures m held))
-
 pub returns-in_err-ballot : goal.returns-in_err-ballot
 unfolding decide_vote and_then
 returns-in_err-ballot c =
     λ m held.
-    let p = err_from_is_err_and c.from_residual-in_err-ballot.result c.from_residual-in_err-ballot.ensures.1 in
+    let p = err_from_is_err_and c.from_residual.result c.from_residual.ensures.1 in
     rw (p.1, p.2)
-    (ap single (c.in_err-ballot.ensures m held.keys_held.count ∙ ap (λ a. and_then a (room m)) (c.in_ok-passed.ensures m held)))
+    (ap single
+    (c.in_err-ballot.ensures m held.keys_held.count
+    ∙ ap (λ a. and_then a (room m)) (c.vote_of-passed.ensures m held)))
 
 pub returns : goal.returns
 unfolding decide_vote and_then
 returns c =
     λ m held.
-    ap single (c.in_ok-ballot.ensures m held.keys_held.count ∙ ap (λ a. and_then a (room m)) (c.in_ok-passed.ensures m held))
+    ap single
+    (c.in_ok-ballot.ensures m held.keys_held.count
+    ∙ ap (λ a. and_then a (room m)) (c.vote_of-passed.ensures m held))
