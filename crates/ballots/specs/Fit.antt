@@ -10,16 +10,22 @@ use Rattle.tables.specs.Places.{Falling}
 use Rattle.state.specs.Tables.{Low, Held}
 use Rattle.ballots.specs.declared.view.View.{View}
 
--- what is asked of the tables of the checkpoints by whoever looks for a name
+-- what is asked of the checkpoints by whoever looks for a name
 pub record FitNames (names : List ℕ) (n : ℕ) : Type 0 where
   pub names-long : 32 * n ≤ length names
   pub checkpoints-fit : n ≤ checkpoint_limit
 
--- and by whoever walks from one to another
+-- by whoever looks for a link
 pub record FitLink (v : View) : Type 0 where
   pub named : FitNames v.names.now (length v.parents.now)
   pub heights-long : length v.heights.now ≡ length v.parents.now
   pub falling : Falling (length v.parents.now) v.parents.now
+
+-- and of the tree that they are
+pub record FitTree (v : View) : Type 0 where
+  pub rooted : 0 < length v.parents.now
+  pub linked : FitLink v
+  pub low : Low (length v.parents.now) v.heights.now
 
 -- what is asked of the votes' numbers
 pub record FitVotes (votes : ℕ) (links : Links) : Type 0 where
@@ -27,9 +33,7 @@ pub record FitVotes (votes : ℕ) (links : Links) : Type 0 where
   pub indexed : Indexed votes links.numbers links.heads links.nexts
 
 pub record Fit (v : View) (links : Links) : Type 0 where
-  pub tree : FitLink v
-  pub rooted : 0 < length v.parents.now
-  pub low : Low (length v.parents.now) v.heights.now
+  pub tree : FitTree v
   pub votes : FitVotes v.votes links
 
 -- the tables, and the votes' numbers, hold a model

@@ -78,18 +78,20 @@ module _ (w : Witness) (sound : Sound w) {links : Links} (so : Searched w links)
     pub view-fits : Fit v links
     view-fits = record {
       tree = record {
-        named = record {
-          names-long =
-              omega (arith, parents-number, ap length is.names, few-checkpoints w sound, sound.typed.tree.names);
-          checkpoints-fit = omega (arith, parents-number, few-checkpoints w sound);
+        rooted = omega (arith, parents-number, sound.good.tree.rooted, count-checkpoints w);
+        linked = record {
+          named = record {
+            names-long =
+                omega (arith, parents-number, ap length is.names, few-checkpoints w sound, sound.typed.tree.names);
+            checkpoints-fit = omega (arith, parents-number, few-checkpoints w sound);
+          };
+          heights-long = heights-number ∙ sym parents-number;
+          falling =
+              transport (λ i. Falling (sym parents-number i) (sym is.parents i))
+              (falling-taken count w.parents (falling w sound));
         };
-        heights-long = heights-number ∙ sym parents-number;
-        falling =
-            transport (λ i. Falling (sym parents-number i) (sym is.parents i))
-            (falling-taken count w.parents (falling w sound));
+        low = transport (λ i. Low (sym parents-number i) (sym is.heights i)) fronts_low;
       };
-      rooted = omega (arith, parents-number, sound.good.tree.rooted, count-checkpoints w);
-      low = transport (λ i. Low (sym parents-number i) (sym is.heights i)) fronts_low;
       votes = record {
         votes-fit = omega (arith, is.votes, few-votes w sound);
         indexed = transport (λ i. Indexed (sym is.votes i) links.numbers links.heads links.nexts) so.indexed;

@@ -2,13 +2,13 @@
 // checkpoint and a quorum is in crate `registry`, and on a link and one vote for it in crate `ballots`.
 #![tactic(auto)]
 
-ghost use Rattle.std.specs.Prelude.{◌≡◌, ◌<◌, ℕ, List, length, drop};
+ghost use Rattle.std.specs.Prelude.{◌≡◌, ℕ, List, length, drop};
 ghost use Rattle.model.specs.Decide.{members_fixed, decide};
 ghost use Rattle.model.specs.Model.{Model};
 ghost use Rattle.search.specs.declared.Links.{Links};
 ghost use Rattle.state.specs.Reading.{outcome_of, brief};
 ghost use Rattle.state.specs.State.{rule_of, quota_in};
-ghost use Rattle.ballots.specs.Fit.{FitLink, Fit, HeldIn};
+ghost use Rattle.ballots.specs.Fit.{FitTree, Fit, HeldIn};
 ghost use Rattle.registry.specs.Decision.{decision_of};
 ghost use Rattle.rules.specs.Decision.{BitsFit};
 
@@ -38,7 +38,7 @@ pub fn outcome_of(decision: Result<Decision, Refusal>) -> Outcome
 
 // Row 10's condition: a vote is held, or a checkpoint beside the root, or the root stands above height 0.
 fn members_fixed(view: &View) -> bool
-    requires { (0 < length view.now.parents.now) × FitLink view.now }
+    requires { FitTree view.now }
     ensures { (m : Model) (links : Links) → HeldIn m view.now links → members_fixed m ≡ result }
 {
     (0 < view.votes) | (1 < view.parents.len()) | (0 < view.heights[0].0)

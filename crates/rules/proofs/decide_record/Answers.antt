@@ -87,10 +87,10 @@ pub decide_checkpoint-requires : goal.decide_checkpoint-requires
 unfolding record_size size_of kind_of
 decide_checkpoint-requires c =
     let a = c.args.view.now in
-    let same = sym c.requires.tree.heights-long in
+    let same = sym c.requires.tree.linked.heights-long in
     let whole = long (goal.at.decide_checkpoint-requires c).Else-log-at-2 c.in-Checkpoint.is in (
-      subst (FitNames a.names.now) same c.requires.tree.named,
-      subst (λ (n : ℕ). Low n a.heights.now) same c.requires.low,
+      subst (FitNames a.names.now) same c.requires.tree.linked.named,
+      subst (λ (n : ℕ). Low n a.heights.now) same c.requires.tree.low,
       omega (arith, whole, c.if-log-at.false),
     )
 
@@ -108,7 +108,7 @@ pub decide_bundle-requires : goal.decide_bundle-requires
 unfolding record_size size_of kind_of
 decide_bundle-requires c =
     let whole = long (goal.at.decide_bundle-requires c).Else-log-at-2 c.in-Bundle.is in
-    (c.requires.tree, omega (arith, whole, c.if-log-at.false))
+    (c.requires.tree.linked, omega (arith, whole, c.if-log-at.false))
 
 pub returns-in-Member : goal.returns-in-Member
 unfolding decide_record decode_as kind_of
@@ -121,7 +121,7 @@ pub returns-in-Checkpoint : goal.returns-in-Checkpoint
 unfolding decide_record decode_as kind_of
 returns-in-Checkpoint c =
     let a = c.args.view.now in
-    let same = sym c.requires.tree.heights-long in
+    let same = sym c.requires.tree.linked.heights-long in
     λ m rule held.
     alone (goal.at.returns-in-Checkpoint c).Else-log-at-2 m c.decide_checkpoint.result _ c.in-Checkpoint.is (
       c.decide_checkpoint.ensures m (subst (NamesHeld m a.names.now) same held.names-held)

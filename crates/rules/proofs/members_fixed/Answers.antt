@@ -9,4 +9,4 @@ unfolding members_fixed
 returns c m links held i =
     ltb 0 (held.keys_held.count i)
     || ltb 1 (held.names-held.count i)
-    || ltb 0 (held.heights-held.height 0 c.requires.0 i)
+    || ltb 0 (held.heights-held.height 0 c.requires.rooted i)
