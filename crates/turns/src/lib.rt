@@ -118,7 +118,7 @@ pub fn refill<R: Read>(rt: HostRuntime, from: &mut R, t: Turn, input: &mut [u8])
             ..t
         },
         None => Turn {
-            fate: Fate::Failed,
+            fate: unless_failed(Fate::Open, true),
             written: 0,
             ..t
         },
