@@ -15,7 +15,7 @@ fn bytes<const N: usize>(s: &[u8], at: usize) -> [u8; N]
     requires { at + N ≤ length s.now }
     ensures { result ≡ part at N s.now }
 {
-    *s[at..].first_chunk().unwrap()
+    *s[at..at + N].first_chunk().unwrap()
 }
 
 pub fn be16(s: &[u8], at: usize) -> u16
@@ -56,10 +56,15 @@ pub fn put16(buf: &mut [u8], v: u16)
     buf[..2].copy_from_slice(&v.to_be_bytes());
 }
 
-// Whether the n bytes of a at i are those of b at j.
+// Whether the n bytes of a at i are those of b at j. Every byte is looked at, so that the loop has one way out, and many
+// bytes are compared at once.
 pub fn same(a: &[u8], i: usize, b: &[u8], j: usize, n: usize) -> bool
     requires { (i + n ≤ length a.now) × (j + n ≤ length b.now) }
     ensures { result ≡ same_bytes (part i n a.now) (part j n b.now) }
 {
-    a[i..i + n] == b[j..j + n]
+    let mut eq = true;
+    for k in 0..n {
+        eq &= a[i + k] == b[j + k];
+    }
+    eq
 }

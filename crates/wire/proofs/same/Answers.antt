@@ -1,14 +1,11 @@
-use Prim.Native.Nat.{ℕ, ◌+◌, ◌-◌}
-use native.Mathlib.Omega.{arith}
-use mathlib.Core.Path.{◌≡◌, ap₂, ◌∙◌}
-use Rattle.model.specs.Bytes.{part}
+use mathlib.Core.Path.{refl}
 use Rattle.model.specs.Lists.{same_bytes}
-use Rattle.wire.proofs.Compare.{pointwise_same}
+use Rattle.wire.proofs.Compare.{same_more}
 use Rattle.wire.proofs.same.Goals as goal
 
-pub returns : goal.returns
-returns c =
-    let x = c.args in
-    let left : x.i + x.n - x.i ≡ x.n = omega arith in
-    let right : x.j + x.n - x.j ≡ x.n = omega arith in
-    c.eq.ensures ∙ pointwise_same _ _ ∙ ap₂ (λ (k m : ℕ). same_bytes (part x.i k x.a.now) (part x.j m x.b.now)) left right
+pub loop-k-init : goal.loop-k-init
+unfolding same_bytes
+loop-k-init c = refl
+
+pub loop-k-preserved : goal.loop-k-preserved
+loop-k-preserved c = same_more _ _ _ _ _ _ _ c.requires c.loop-k-test.true c.loop-k.invariant
