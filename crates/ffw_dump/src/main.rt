@@ -12,10 +12,10 @@ use std::io::Read;
 use std::ops::ControlFlow;
 use wire::records::{Kind, UnknownKind};
 
-// A number's last digit in base 16.
+// A number's last digit in base 16. It is computed, since many are at once, and looked up one by one.
 fn digit(n: u8) -> u8 {
-    let digits = b"0123456789abcdef";
-    digits[(n % 16) as usize]
+    let d = n % 16;
+    if d < 10 { b'0' + d } else { b'a' - 10 + d }
 }
 
 // Bytes in hexadecimal, into the buffer; answers the offset past them.
