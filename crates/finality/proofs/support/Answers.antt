@@ -18,7 +18,8 @@ bounds-b-target c = rw c.from-target.ensures (low (goal.at.bounds-b-target c).Af
 
 pub gather-requires-clause-walk : goal.gather-requires-clause-walk
 gather-requires-clause-walk c =
-    rw c.from-target.ensures (ready-walk c.prepare-b.ensures _ (low (goal.at.gather-requires-clause-walk c).After-prepare-b).1)
+    rw c.from-target.ensures
+    (ready-walk c.prepare-b.ensures _ (low (goal.at.gather-requires-clause-walk c).After-prepare-b).1)
 
 pub bounds-voters-source : goal.bounds-voters-source
 bounds-voters-source c = rw c.from-source.ensures (low (goal.at.bounds-voters-source c).After-prepare-b).0
