@@ -45,7 +45,13 @@ pub fn rows(w: &Witness) -> [Row; MAX_CHECKPOINTS]
     for p in 0..w.checkpoint_count {
         let place = Place(p as u16);
         let mut voters = [Voters::NOBODY; MAX_CHECKPOINTS];
-        votes::gather(&b.who, &w.sources, &b.chains.next, b.chains.head[p], &mut voters);
+        votes::gather(
+            &b.who,
+            &w.sources,
+            &b.chains.next,
+            b.chains.head[p],
+            &mut voters,
+        );
         let best = links::heaviest(&voters[..p], &a.marks, bonds);
         rows[p] = Row {
             place,

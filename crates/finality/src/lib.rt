@@ -50,7 +50,13 @@ pub fn support(w: Witness, s: Place, t: Place) -> Backing
     let source = usize::from(s.0);
     let target = usize::from(t.0);
     let mut voters = [Voters::NOBODY; MAX_CHECKPOINTS];
-    votes::gather(&b.who, &w.sources, &b.chains.next, b.chains.head[target], &mut voters);
+    votes::gather(
+        &b.who,
+        &w.sources,
+        &b.chains.next,
+        b.chains.head[target],
+        &mut voters,
+    );
     backed_by(voters[source], bonds, b.bar)
 }
 

@@ -33,7 +33,13 @@ pub fn analyse(w: &Witness, b: &Ballots) -> Analysis
     marks[0].finalizing = true;
     for t in 1..w.checkpoint_count {
         let mut voters = [Voters::NOBODY; MAX_CHECKPOINTS];
-        votes::gather(&b.who, &w.sources, &b.chains.next, b.chains.head[t], &mut voters);
+        votes::gather(
+            &b.who,
+            &w.sources,
+            &b.chains.next,
+            b.chains.head[t],
+            &mut voters,
+        );
         marks[t].justified = links::reaches(&voters[..t], &marks, bonds, b.bar);
         let p = usize::from(w.parents[t].0);
         marks[p].finalizing |= voters[p].carries(bonds, b.bar);
