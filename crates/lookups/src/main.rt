@@ -9,7 +9,6 @@ ghost use Rattle.std.specs.Prelude.{◌≡◌, ◌+◌, ◌≤◌, ◌<◌, leng
 use model::{MAX_CHECKPOINTS, NAME_BYTES};
 use names::{find_name, names_twice};
 use state::Witness;
-use std::io;
 
 // Where the table has the name of checkpoint 511.
 const LAST_NAME: usize = 16352;
@@ -129,18 +128,24 @@ fn name_at(p: usize) -> usize
     p * 65 - 16
 }
 
+// Prints each piece with a write of its own. A piece that cannot be written is left out, and the rest is still tried.
+macro_rules! say {
+    ($rt:expr; $($piece:expr),+) => {{
+        $(let _ = $rt.print($piece);)+
+    }};
+}
+
 // The place of each of the 512 names among the first `count`, or `count` where it is not among them; 16 to a line.
-fn print_places(rt: HostRuntime, w: &Witness, count: usize, log: &[u8]) -> io::Result<()>
+fn print_places(rt: HostRuntime, w: &Witness, count: usize, log: &[u8])
     requires { (count ≤ 512) × (length log.now ≡ 71588) }
 {
     for p in 0..MAX_CHECKPOINTS {
         let place = find_name(&w.names, count, log, name_at(p)).unwrap_or(count);
-        print!(rt; "{place} ")?;
+        say!(rt; place, " ");
         if p % 16 == 15 {
-            println!(rt; "")?;
+            say!(rt; "\n");
         }
     }
-    Ok(())
 }
 
 // The name of s at `at`, with one bit of byte k changed.
@@ -154,35 +159,38 @@ fn changed(s: &[u8], at: usize, k: usize) -> [u8; 32]
 }
 
 // The place of the name of checkpoint 300 with each of its bytes changed in turn.
-fn print_changed(rt: HostRuntime, w: &Witness, log: &[u8]) -> io::Result<()>
+fn print_changed(rt: HostRuntime, w: &Witness, log: &[u8])
     requires { length log.now ≡ 71588 }
 {
     for k in 0..32 {
         let name = changed(log, name_at(300), k);
         let place = find_name(&w.names, MAX_CHECKPOINTS, &name, 0).unwrap_or(MAX_CHECKPOINTS);
-        print!(rt; "{place} ")?;
+        say!(rt; place, " ");
     }
-    println!(rt; "")
+    say!(rt; "\n");
 }
 
-fn print_twice(rt: HostRuntime, names: &[u8; NAME_BYTES], count: usize) -> io::Result<()>
+fn print_twice(rt: HostRuntime, names: &[u8; NAME_BYTES], count: usize)
     requires { count ≤ 512 }
 {
-    let which = if names_twice(names, count) { "a" } else { "no" };
-    println!(rt; "{which} name stands twice")
+    if names_twice(names, count) {
+        say!(rt; "a name stands twice\n");
+    } else {
+        say!(rt; "no name stands twice\n");
+    }
 }
 
 // Whether a name stands twice in the table, and in one where checkpoint 511 has the name of checkpoint 5; then in that
 // table without its last name.
-fn print_repeated(rt: HostRuntime, w: &Witness, d: usize) -> io::Result<()>
+fn print_repeated(rt: HostRuntime, w: &Witness, d: usize)
     requires { d < 31 }
 {
     let mut names = w.names;
-    print_twice(rt, &names, 512)?;
+    print_twice(rt, &names, 512);
     names[LAST_NAME + d] = 0;
     names[LAST_NAME + d + 1] = 5;
-    print_twice(rt, &names, 512)?;
-    print_twice(rt, &names, 511)
+    print_twice(rt, &names, 512);
+    print_twice(rt, &names, 511);
 }
 
 // Whether checkpoint i + 1 was read with checkpoint i as parent, and the vote for this step between these two.
@@ -197,29 +205,24 @@ fn is_step_held(w: &Witness, i: usize) -> bool
 
 // The tree of names that differ in bytes d and d + 1; its first 256 names differ in one byte alone. Then how many steps
 // of the chain the witness holds as the log has them.
-fn print_tree(rt: HostRuntime, d: usize) -> io::Result<()>
+fn print_tree(rt: HostRuntime, d: usize)
     requires { d < 31 }
 {
     let mut log = [0; 71588];
     fill(&mut log, d);
     let w = replay::replay(blank::blank(), &log, 2000).read.witness;
-    print_places(rt, &w, 512, &log)?;
-    print_places(rt, &w, 256, &log)?;
-    print_changed(rt, &w, &log)?;
-    print_repeated(rt, &w, d)?;
+    print_places(rt, &w, 512, &log);
+    print_places(rt, &w, 256, &log);
+    print_changed(rt, &w, &log);
+    print_repeated(rt, &w, d);
     let steps = (0..511).filter(|i| is_step_held(&w, *i)).count();
-    println!(rt; "{steps} steps as the log has them")
+    say!(rt; steps, " steps as the log has them\n");
 }
 
 // Names alike in their first 30 bytes, in their last 30, and in all but bytes 15 and 16, the end of one word and the
 // beginning of the next.
-fn print_trees(rt: HostRuntime) -> io::Result<()> {
-    print_tree(rt, 30)?;
-    print_tree(rt, 0)?;
-    print_tree(rt, 15)
-}
-
 fn main(rt: HostRuntime) {
-    // Where the answers cannot be printed, the stored output is not met.
-    let _ = print_trees(rt);
+    print_tree(rt, 30);
+    print_tree(rt, 0);
+    print_tree(rt, 15);
 }
