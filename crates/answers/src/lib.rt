@@ -14,11 +14,11 @@ use finality::Backing;
 use model::{Place, Refusal, Status};
 use state::Witness;
 
-// Row 40: whether the state is sound. The state is lent, since it is large: by value it would be copied twice.
-fn sound(w: &Witness) -> Result<(), Refusal>
-    ensures { PassesRow40 w.now result }
+// Row 40: whether the state is sound.
+fn sound(w: Witness) -> Result<(), Refusal>
+    ensures { PassesRow40 w result }
 {
-    if sound::is_sound(*w) {
+    if sound::is_sound(w) {
         Ok(())
     } else {
         Err(Refusal::UnsoundState)
@@ -40,7 +40,7 @@ fn held(w: &Witness, p: Place) -> Result<(), Refusal>
 pub fn check_list(w: Witness, list: &[u8]) -> Result<u64, Refusal>
     ensures { check_of result ≡ check_call w list.now }
 {
-    sound(&w)?;
+    sound(w)?;
     checker::check_list(&w, list)
 }
 
@@ -48,7 +48,7 @@ pub fn check_list(w: Witness, list: &[u8]) -> Result<u64, Refusal>
 pub fn status(w: Witness, p: Place) -> Result<Status, Refusal>
     ensures { status_of result ≡ status_call w p.0 }
 {
-    sound(&w)?;
+    sound(w)?;
     held(&w, p)?;
     Ok(finality::status(w, p))
 }
@@ -58,7 +58,7 @@ pub fn status(w: Witness, p: Place) -> Result<Status, Refusal>
 pub fn support(w: Witness, s: Place, t: Place) -> Result<Backing, Refusal>
     ensures { support_of result ≡ support_call w s.0 t.0 }
 {
-    sound(&w)?;
+    sound(w)?;
     held(&w, s)?;
     held(&w, t)?;
     Ok(finality::support(w, s, t))
@@ -68,7 +68,7 @@ pub fn support(w: Witness, s: Place, t: Place) -> Result<Backing, Refusal>
 pub fn conflict(w: Witness) -> Result<bool, Refusal>
     ensures { conflict_of result ≡ conflict_call w }
 {
-    sound(&w)?;
+    sound(w)?;
     Ok(finality::conflict(w))
 }
 
@@ -78,7 +78,7 @@ pub fn write_list(w: Witness, buf: &mut [u8]) -> Result<usize, Refusal>
     ensures { (write_answer_of result ≡ write_call our_list w buf.old)
         × (buf.new ≡ write_buffer our_list w buf.old) }
 {
-    sound(&w)?;
+    sound(w)?;
     evidence::our_list(&w, buf)
 }
 
@@ -88,6 +88,6 @@ pub fn write_paper(w: Witness, buf: &mut [u8]) -> Result<usize, Refusal>
     ensures { (write_answer_of result ≡ write_call paper w buf.old)
         × (buf.new ≡ write_buffer paper w buf.old) }
 {
-    sound(&w)?;
+    sound(w)?;
     board::write_paper(w, buf)
 }
