@@ -12,7 +12,8 @@ use std::io::Read;
 use std::ops::ControlFlow;
 use wire::records::{Kind, UnknownKind};
 
-// A number's last digit in base 16. It is computed, since many are at once, and looked up one by one.
+// A number's last digit in base 16. It is computed, so that the build can make many at once: a table would be looked up
+// one by one.
 fn digit(n: u8) -> u8 {
     let d = n % 16;
     if d < 10 { b'0' + d } else { b'a' - 10 + d }
