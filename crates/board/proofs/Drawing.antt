@@ -27,6 +27,7 @@ use Rattle.tables.specs.Places.{height_at}
 use Rattle.voters.specs.declared.Voters.{Voters}
 use Rattle.voters.specs.Bits.{among, count_below}
 use Rattle.voters.specs.Weights.{weight_of}
+use Rattle.tally.specs.declared.links.Mark.{Mark}
 use Rattle.tally.specs.declared.links.Weighed.{Weighed}
 use Rattle.tally.specs.declared.votes.Ballots.{Ballots}
 use Rattle.tally.specs.Chains.{voters_at, Walkable, Tallied}
@@ -65,19 +66,21 @@ module _ {w : Witness} {b : Ballots} {a : Analysis} {rows : List Row} {p : ℕ} 
   pub drawn_walk : p < w.checkpoint_count → Walkable b.who w.sources b.chains.next (get_or b.chains.head p 0)
   drawn_walk h = ready-walk at.ready p (omega arith)
 
-  -- the heaviest voters are behind the best link
-  pub drawn_more : (voters : List Voters) {r : Weighed} {s : Status} {n : ℕ}
+  -- the heaviest voters, by marks that say of the places below p what the analysis says, are behind the best link. They
+  -- need not be those of the analysis themselves: a wrong version that lends others is then refused for what these say
+  pub drawn_more : (voters : List Voters) (marks : List Mark) {r : Weighed} {s : Status} {n : ℕ}
       → length voters ≡ 512
       → p < w.checkpoint_count
       → Tallied b.who w.sources b.chains.next (get_or b.chains.head p 0) (voters_at voters)
-      → IsHeaviest (held_bonds w) (length (held_bonds w)) a.marks (voters_at (take p voters)) (length (take p voters)) r
+      → ((s : ℕ) → s < p → justified_at marks s ≡ justified_at a.marks s)
+      → IsHeaviest (held_bonds w) (length (held_bonds w)) marks (voters_at (take p voters)) (length (take p voters)) r
       → s ≡ status_in a p
       → n ≡ count_below 128 (among r.voters)
       → Drawn w b a
       (set rows p (record { place = record { 0 = p }; height = get_or w.heights p (record { 0 = 0 }); status = s; number = n; bonds = r.bonds }))
       (p + 1)
   unfolding checkpoint_row
-  drawn_more voters {r} {s} {n} long h all best_is standing counted =
+  drawn_more voters marks {r} {s} {n} long h all kept best_is standing counted =
       record {
         ready = at.ready;
         standings = at.standings;
@@ -91,20 +94,20 @@ module _ {w : Witness} {b : Ballots} {a : Analysis} {rows : List Row} {p : ℕ} 
       held : p < length (model_of w).checkpoints
       held = omega (arith, count-checkpoints w)
 
-      marked : (s : ℕ) → s < p → justified_at a.marks s ≡ justified? (model_of w) s
-      marked s l = at.standings.justified s (omega (arith, held))
+      marked : (s : ℕ) → s < p → justified_at marks s ≡ justified? (model_of w) s
+      marked s l = kept s l ∙ at.standings.justified s (omega (arith, held))
 
       weight : Voters → ℕ
       weight v = weight_of (held_bonds w) (length (held_bonds w)) v
 
       -- the heaviest of the places below p are those of the list lent
-      best : heaviest weight a.marks (voters_at (take p voters)) (length (take p voters))
-          ≡ heaviest weight a.marks (voters_at voters) p
-      best = heaviest_front voters p (omega (arith, long, at.few)) weight a.marks
+      best : heaviest weight marks (voters_at (take p voters)) (length (take p voters))
+          ≡ heaviest weight marks (voters_at voters) p
+      best = heaviest_front voters p (omega (arith, long, at.few)) weight marks
 
-      is : (count_below 128 (among (heaviest weight a.marks (voters_at voters) p)) ≡ (best_support (model_of w) p).number)
-          × (weight (heaviest weight a.marks (voters_at voters) p) ≡ (best_support (model_of w) p).bonds)
-      is = ready_best at.ready p (voters_at voters) (omega arith) all a.marks marked at.low
+      is : (count_below 128 (among (heaviest weight marks (voters_at voters) p)) ≡ (best_support (model_of w) p).number)
+          × (weight (heaviest weight marks (voters_at voters) p) ≡ (best_support (model_of w) p).bonds)
+      is = ready_best at.ready p (voters_at voters) (omega arith) all marks marked at.low
 
       here : row_text p (height_at w.heights p) s n r.bonds ≡ checkpoint_row (model_of w) p
       here =

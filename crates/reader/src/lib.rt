@@ -39,7 +39,8 @@ pub struct Batch {
     pub witness: Witness,
 }
 
-// What the rows look at: of each table of the state what is held.
+// What the rows look at: of the ids, the parents and the heights those that are held; all of the names; the
+// numbers, and how many votes are held.
 fn view_of<'a>(held: &'a Witness) -> View<'a>
     requires { (held.now.member_count ≤ member_limit) × (held.now.checkpoint_count ≤ checkpoint_limit) }
     ensures { IsView held.now result }

@@ -1,4 +1,5 @@
--- `ballots::votes::room` meets its contract: row 36, on a vote that is cast. Assumes nothing.
+-- `ballots::votes::room` meets its contract: row 36, on what the rows before it made of a vote, refusals too. Assumes
+-- nothing.
 use mathlib.Core.Path.{sym, ap, ◌∙◌}
 use mathlib.Core.Bool.{Bool}
 use borrow.Author.Tests.{le-leb, lt-leb}

@@ -33,7 +33,8 @@ overflow_cast-rows c =
 
 pub loop-p-preserved : goal.loop-p-preserved
 loop-p-preserved c =
-    drawn_more c.loop-p.invariant c.gather.new.voters (omega arith) c.loop-p-test.true c.gather.ensures
+    drawn_more c.loop-p.invariant c.gather.new.voters _ (omega arith) c.loop-p-test.true c.gather.ensures
+    (λ s l. refl)
     c.heaviest-best.ensures
     c.status_of.ensures
     c.count.ensures
